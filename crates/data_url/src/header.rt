@@ -121,6 +121,7 @@ pub(crate) fn serialised_text<'a>(text: &'a Option<String>, header: &'a str) -> 
 }
 
 /// A serialised header without its suffix, and whether it has one, so that the body is base64.
+#[tactic(auto, using(crate::proofs::header::Stages::printable_trimmed))]
 pub(crate) fn split_suffix(header: &str) -> (&str, bool)
     requires { IsPrintable header.now }
     ensures header { (m : Record) → IsRecordFor (with_plain result.0.now) m
@@ -136,6 +137,7 @@ pub(crate) fn split_suffix(header: &str) -> (&str, bool)
 
 /// Returns the record of a header without its suffix or, if it has none, the default record. A type that is left out is
 /// `text/plain`.
+#[tactic(auto, using(crate::proofs::header::Stages::chars_printable, crate::proofs::header::Stages::begins_at))]
 pub(crate) fn read_media(alloc: Global, media: &str) -> Result<Mime, AllocError>
     requires { IsPrintable media.now }
     ensures { IfOk result (λ mime. IsRecordFor (with_plain media.now) (record_of mime)) }

@@ -168,6 +168,7 @@ impl Mime {
     ///
     /// Not proved: the time is in proportion to the length of the text, times the logarithm of the number of names
     /// that are kept, and the memory in proportion to the text.
+    #[tactic(auto, using(crate::proofs::mime::FirstNames::records))]
     pub fn from_str(alloc: Global, s: &str) -> Result<Mime, MimeFromStrError>
         ensures parsed { IfOk result (λ mime. Parses (chars s.now) (record_of mime)) }
         ensures wellformed { IfOk result (λ mime. IsWellformed (record_of mime)) }

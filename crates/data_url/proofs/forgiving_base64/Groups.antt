@@ -1,29 +1,22 @@
 -- Groups of four symbols, and texts that are fed in two parts.
-use Rattle.std.proofs.Common.{◌≡◌, ℕ, suc, ◌+◌, ◌*◌, ◌≤◌, true, ◌&&◌, ◌||◌, List, [], ◌∷◌, ◌++◌, map, length}
-use Rattle.std.proofs.Common.{◌-◌, get_or, get_or-append-add, subst, take, drop, Fits, w8, refl, ap, ap₂, arith}
-use Rattle.std.proofs.Common.{length-take, length-take-le}
-use Rattle.std.proofs.Common.{◌∙◌, false, min, None, take-add, append_assoc, length-append, ◌/◌}
-use Rattle.std.specs.List.{list_all, prefix_len, filter, list_any}
-use Rattle.std.proofs.lemmas.Bool.{and_parts}
-use Rattle.std.proofs.lemmas.List.{get_or-take, get_or_past, length-map, take-append-drop, take-map}
-use Rattle.std.proofs.lemmas.List.{append-nil, take-take, take_at, take_rest, map-append, length-replicate}
-use Rattle.std.proofs.lemmas.List.Elements.{filter-append}
-use Rattle.std.proofs.lemmas.List.Folds.{list_all-append}
+use Rattle.std.proofs.Common.{get_or, get_or-append-add, subst, take, drop, Fits, w8, refl, ap, ap₂, arith, length-take}
+use Rattle.std.proofs.Common.{get_or-take, take-append-drop, append-nil, take-take, take_at}
+use Rattle.std.proofs.Common.{length-take-le, ◌∙◌, false, min, None, take-add, append_assoc, length-append, ◌/◌}
+use Rattle.std.proofs.Common.{◌≡◌, ℕ, suc, ◌+◌, ◌*◌, ◌≤◌, true, ◌&&◌, ◌||◌, List, [], ◌∷◌, ◌++◌, map, length, ◌-◌}
+use Rattle.std.{proofs.Math.Seq.{take-append-add}, proofs.lemmas.Bool.{and_parts}, specs.Char.{is_ascii_whitespace}}
+use Rattle.std.{proofs.lemmas.List.Elements.{filter-append}, proofs.lemmas.List.Folds.{list_all-append}}
 use Rattle.std.proofs.lemmas.List.Sums.{list_all-from_AllPass, prefix_len-le-length, prefix_len_passes}
-use Rattle.std.proofs.Math.Seq.{take-append-add}
-use Rattle.data_url.specs.Base64.{group_bytes, group_number, groups, is_symbol, symbol_value, values, after_groups}
+use Rattle.std.proofs.lemmas.List.{get_or_past, length-map, take-map, take_rest, map-append, length-replicate}
+use Rattle.std.specs.List.{list_all, prefix_len, filter, list_any}
 use Rattle.data_url.specs.Base64.{decoded, first_fault, left_padding, left_symbols, left_text}
-use Rattle.std.specs.Char.{is_ascii_whitespace}
-use Rattle.data_url.specs.Steps.Groups.{Fills, is_symbol_or_space}
-use Rattle.data_url.specs.Steps.Lanes.{value_of}
-use Rattle.data_url.proofs.forgiving_base64.Vectors.{groups_whole, value_is}
-use Rattle.data_url.proofs.forgiving_base64.Padding.{after_groups-append, after_groups-map}
-use Rattle.data_url.proofs.forgiving_base64.Padding.{before-append, before_none, done_is, every_after, fault-append}
-use Rattle.data_url.proofs.forgiving_base64.Padding.{fault_byte, fault_invalid, fault_none, fault_some, fault_text}
-use Rattle.data_url.proofs.forgiving_base64.Padding.{groups-append, is_pad, kind_is, length_alike, no_fault_valid}
-use Rattle.data_url.proofs.forgiving_base64.Padding.{pads_of_text, symbols_of_text, any_filter, filter_every}
-use Rattle.data_url.proofs.forgiving_base64.Padding.{classes, every_list_all, filter_all, space_alone}
-use Rattle.data_url.specs.Laws.{GoesOn, TwoFeeds}
+use Rattle.data_url.specs.Base64.{group_bytes, group_number, groups, is_symbol, symbol_value, values, after_groups}
+use Rattle.data_url.specs.{Laws.{GoesOn, TwoFeeds}, Steps.Groups.{Fills, is_symbol_or_space}, Steps.Lanes.{value_of}}
+use Rattle.data_url.proofs.forgiving_base64.Padding.{after_groups-append, after_groups-map, before-append, before_none}
+use Rattle.data_url.proofs.forgiving_base64.Padding.{any_filter, filter_every, classes, every_list_all, filter_all}
+use Rattle.data_url.proofs.forgiving_base64.Padding.{done_is, every_after, fault-append, fault_byte, fault_invalid}
+use Rattle.data_url.proofs.forgiving_base64.Padding.{fault_none, fault_some, fault_text, groups-append, is_pad, kind_is}
+use Rattle.data_url.proofs.forgiving_base64.Padding.{length_alike, no_fault_valid, pads_of_text, symbols_of_text}
+use Rattle.data_url.proofs.{forgiving_base64.Padding.{space_alone}, forgiving_base64.Vectors.{groups_whole, value_is}}
 
 -- Groups at the start of a text.
 

@@ -1,34 +1,24 @@
 -- Feeding while decoded bytes are held. For the functions of `Decoder` that feed.
-use Rattle.std.proofs.Common.{◌*◌, ◌≡◌, ℕ, suc, zero, ◌+◌, ◌-◌, ◌/◌, ◌<◌, ◌≤◌, Fits, w8, length-take-le, Bool}
-use Rattle.std.proofs.Common.{true, false, cond, min, ◌||◌, List, [], ◌∷◌, ◌++◌, length, map, drop, get_or, take}
-use Rattle.std.proofs.Common.{take-add}
 use Rattle.std.proofs.Common.{Option, None, Some, is_some, Result, Ok, Err, refl, ap, sym, ◌∙◌, subst, arith}
-use Rattle.std.proofs.Common.{append_assoc, drop-drop, length-append, length-take, take-append-drop}
-use Rattle.std.specs.List.{filter, list_all}
-use Rattle.std.proofs.lemmas.Bool.{and_parts, true≢false}
-use Rattle.std.proofs.lemmas.List.{append-nil, get_or-drop, length-drop, nil_from_length}
-use Rattle.std.proofs.lemmas.List.{take_more, take_rest}
-use Rattle.data_url.specs.Base64.{Kind, after_groups, first_fault, groups, is_symbol}
-use Rattle.data_url.specs.Base64.{left_padding, left_symbols, symbol_value}
-use Rattle.data_url.specs.Decoder.{Feeds, IsLeft, State, left_over}
-use Rattle.data_url.specs.Mime.{Every}
+use Rattle.std.proofs.Common.{append_assoc, drop-drop, length-append, length-take, take-append-drop, append-nil}
+use Rattle.std.proofs.Common.{false, cond, min, ◌||◌, List, [], ◌∷◌, ◌++◌, length, map, drop, get_or, take, take-add}
+use Rattle.std.{proofs.Common.{get_or-drop, length-drop, MatchResult}, specs.Option.{option_or}}
+use Rattle.std.proofs.Common.{◌*◌, ◌≡◌, ℕ, suc, zero, ◌+◌, ◌-◌, ◌/◌, ◌<◌, ◌≤◌, Fits, w8, length-take-le, Bool, true}
+use Rattle.std.{proofs.lemmas.Bool.{and_parts, true≢false}, specs.List.{filter, list_all}, specs.Result.{result_err}}
+use Rattle.std.proofs.lemmas.List.{nil_from_length, take_more, take_rest}
+use Rattle.data_url.specs.Base64.{Kind, after_groups, first_fault, groups, is_symbol, left_padding, left_symbols}
+use Rattle.data_url.specs.{Base64.{symbol_value}, Decoder.{Feeds, IsLeft, State, left_over}, Run.{IsRun, joined_pieces}}
+use Rattle.data_url.specs.{Mime.{Every}, Steps.Lanes.{value_of}, declared.forgiving_base64.held.HeldGroups.{HeldGroups}}
 use Rattle.data_url.specs.Steps.Groups.{Fills, IsWhole, held_bytes, is_symbol_or_space}
-use Rattle.data_url.specs.declared.forgiving_base64.held.HeldGroups.{HeldGroups}
 use Rattle.data_url.specs.Steps.Holding.{Adds, CallsOnce, Flushes, Gains, IsBetweenGroups, Reads, Refuses}
-use Rattle.data_url.specs.Steps.Lanes.{value_of}
 use Rattle.data_url.specs.declared.forgiving_base64.DecodeError.{DecodeError}
 use Rattle.data_url.specs.declared.forgiving_base64.DecodeError.TheVariants.{InvalidBase64, WriteError}
-use Rattle.data_url.proofs.forgiving_base64.Steps.{IsSound, adds_none, adds_text, fault_space, fault_symbol}
-use Rattle.data_url.proofs.forgiving_base64.Steps.{feeds_stop, feeds_then, has_pad, left_goes_on, one_call}
-use Rattle.data_url.proofs.forgiving_base64.Steps.{told_call}
 use Rattle.data_url.proofs.forgiving_base64.Groups.{fits_take, symbols_alone, symbols_values}
-use Rattle.data_url.specs.Run.{IsRun, joined_pieces}
-use Rattle.std.specs.Prelude.{MatchResult}
-use Rattle.std.specs.Option.{option_or}
-use Rattle.std.specs.Result.{result_err}
-use Rattle.data_url.proofs.runs.Runs.{joined_pieces-append, match_at, match_none, refusal-append, run-append}
 use Rattle.data_url.proofs.forgiving_base64.Padding.{every_list_all, fault-append, fault_byte, filter_all, is_pad}
 use Rattle.data_url.proofs.forgiving_base64.Padding.{length-after_groups}
+use Rattle.data_url.proofs.forgiving_base64.Steps.{IsSound, adds_none, adds_text, fault_space, fault_symbol, feeds_stop}
+use Rattle.data_url.proofs.forgiving_base64.Steps.{feeds_then, has_pad, left_goes_on, one_call, told_call}
+use Rattle.data_url.proofs.runs.Runs.{joined_pieces-append, match_at, match_none, refusal-append, run-append}
 
 -- A text of symbols and white space has no fault and no padding
 

@@ -1,18 +1,18 @@
 -- The definitions of base64, read byte by byte: padding, faults and valid texts.
-use Rattle.std.{proofs.Common.{List, [], ◌∷◌, ◌++◌}, proofs.lemmas.List.Folds.{list_any-append}}
-use Rattle.std.proofs.Common.{append-nil, take_at, length, get_or, replicate, Option, None, Some, refl, ap, sym, ◌∙◌}
-use Rattle.std.proofs.Common.{inl, inr, append_assoc, pred, ◌<◌, ◌≤◌, arith, ◌%◌, eqb, length-append, map, is_some, ◌/◌}
-use Rattle.std.proofs.Common.{◌*◌, drop, length-drop, ◌≡◌, ℕ, suc, zero, ◌+◌, Bool, true, false, not, cond, ◌&&◌, ◌||◌}
+use Rattle.std.proofs.Common.{List, [], ◌∷◌, ◌++◌, append-nil, take_at, length, get_or, replicate, Option, None, Some}
+use Rattle.std.proofs.Common.{length-append, map, is_some, ◌/◌, ◌*◌, drop, length-drop, ◌≡◌, ℕ, suc, zero, ◌+◌, Bool}
+use Rattle.std.proofs.Common.{refl, ap, sym, ◌∙◌, inl, inr, append_assoc, pred, ◌<◌, ◌≤◌, arith, ◌%◌, eqb}
+use Rattle.std.{proofs.Common.{true, false, not, cond, ◌&&◌, ◌||◌}, proofs.lemmas.List.Folds.{list_any-append}}
 use Rattle.std.{proofs.Math.Bool.{or-false, or_assoc}, specs.List.{filter, find, list_any, range_with_len, list_all}}
 use Rattle.std.proofs.lemmas.Bool.{cases_Bool, false≢true, eqb-true, false_from_ne_true, agree_below_at, and_parts}
 use Rattle.std.proofs.lemmas.List.{length-map, drop-map, get_or_at, length_push, length-replicate}
 use Rattle.std.specs.Char.{is_ascii_whitespace}
 use Rattle.data_url.specs.Base64.{before_place, first_fault, is_fault, is_symbol, is_valid, without_padding, kind_of}
-use Rattle.data_url.specs.{Base64.{groups}, Facts.{IsFirstFault, IsSymbolsAndPadding, PaddingFits}, Mime.{Every}}
-use Rattle.data_url.specs.Base64.{values, without_last_padding, Kind, after_groups, without_whitespace, complete_bytes}
+use Rattle.data_url.specs.{Base64.{complete_bytes}, Facts.{IsFirstFault, IsSymbolsAndPadding, PaddingFits}}
+use Rattle.data_url.specs.Base64.{groups, values, without_last_padding, Kind, after_groups, without_whitespace}
+use Rattle.data_url.specs.{Mime.{Every}, declared.forgiving_base64.InvalidBase64Details.TheVariants.{UnexpectedSymbol}}
 use Rattle.data_url.specs.declared.forgiving_base64.InvalidBase64Details.TheVariants.{AlphabetSymbolAfterPadding}
 use Rattle.data_url.specs.declared.forgiving_base64.InvalidBase64Details.TheVariants.{LoneAlphabetSymbol, Padding}
-use Rattle.data_url.specs.declared.forgiving_base64.InvalidBase64Details.TheVariants.{UnexpectedSymbol}
 
 -- A walk over a text that remembers whether it has seen padding
 

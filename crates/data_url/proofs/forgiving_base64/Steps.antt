@@ -1,40 +1,29 @@
 -- What a decoder does with more bytes, and at its end. For `Decoder`.
-use Rattle.std.proofs.Common.{◌≡◌, ℕ, suc, zero, ◌+◌, ◌%◌, ◌≤◌, Bool, true, false, cond, eqb, get_or, take, List}
-use Rattle.std.proofs.Common.{[], ◌∷◌, ◌++◌, length, map, min, replicate, None, Some, Result, Ok, Err, refl, ap, ap₂}
-use Rattle.std.proofs.Common.{sym, ◌≢◌, ◌⊎◌, inl, inr}
-use Rattle.std.proofs.Common.{◌∙◌, subst, arith, length-append, length-take, drop, Option, append_assoc}
-use Rattle.std.specs.Prelude.{MatchOption, MatchBool, MatchResult}
-use Rattle.std.specs.List.{filter, list_any}
-use Rattle.std.proofs.lemmas.List.{append-nil, length-map, length-replicate, take-append-drop, nil_from_length}
-use Rattle.std.proofs.lemmas.List.Elements.{filter-append}
-use Rattle.std.proofs.lemmas.Bool.{false≢true, true≢false}
+use Rattle.std.proofs.Common.{append_assoc, MatchOption, MatchBool, MatchResult, append-nil, take-append-drop}
+use Rattle.std.proofs.Common.{◌∷◌, ◌++◌, length, map, min, replicate, None, Some, Result, Ok, Err, refl, ap, ap₂, sym}
+use Rattle.std.proofs.Common.{◌≡◌, ℕ, suc, zero, ◌+◌, ◌%◌, ◌≤◌, Bool, true, false, cond, eqb, get_or, take, List, []}
+use Rattle.std.proofs.Common.{◌≢◌, ◌⊎◌, inl, inr, ◌∙◌, subst, arith, length-append, length-take, drop, Option}
+use Rattle.std.{proofs.lemmas.Bool.{false≢true, true≢false}, specs.List.{filter, list_any}, specs.Result.{result_err}}
+use Rattle.std.{proofs.lemmas.List.Elements.{filter-append}, specs.Char.{is_ascii_whitespace}, specs.Option.{option_or}}
+use Rattle.std.proofs.lemmas.List.{length-map, length-replicate, nil_from_length}
+use Rattle.data_url.specs.Base64.{after_groups, decoded, complete_bytes, first_fault, group_bytes, group_number, groups}
+use Rattle.data_url.specs.Base64.{is_symbol, is_valid, kind_of, left_padding, left_symbols, left_text, rest_bytes}
+use Rattle.data_url.specs.{Base64.{symbol_value, values}, Mime.{Every}, Run.{IsRun, IsPrefix, joined_pieces, refusal}}
+use Rattle.data_url.specs.Decoder.{Feeds, Finishes, State, left_over, IsLeft, IsTaken, state_of}
+use Rattle.data_url.specs.{Errors.{IsRefused}, Laws.{GoesOn}, declared.forgiving_base64.DecodeError.{DecodeError}}
+use Rattle.data_url.specs.{Steps.Holding.{Adds, CallsOnce, Refuses}, declared.forgiving_base64.decode.Decoder.{Decoder}}
+use Rattle.data_url.specs.declared.forgiving_base64.DecodeError.TheVariants.{WriteError, InvalidBase64}
 use Rattle.data_url.specs.declared.forgiving_base64.InvalidBase64Details.TheVariants.{AlphabetSymbolAfterPadding}
 use Rattle.data_url.specs.declared.forgiving_base64.InvalidBase64Details.TheVariants.{LoneAlphabetSymbol, Padding}
 use Rattle.data_url.specs.declared.forgiving_base64.InvalidBase64Details.TheVariants.{UnexpectedSymbol}
-use Rattle.data_url.specs.Base64.{after_groups, decoded, complete_bytes, first_fault, group_bytes, group_number, groups}
-use Rattle.data_url.specs.Base64.{is_symbol, is_valid, kind_of, left_padding, left_symbols, left_text, rest_bytes}
-use Rattle.data_url.specs.Base64.{symbol_value, values}
-use Rattle.std.specs.Char.{is_ascii_whitespace}
-use Rattle.data_url.specs.Decoder.{Feeds, Finishes, State, left_over, IsLeft, IsTaken, state_of}
-use Rattle.data_url.specs.declared.forgiving_base64.decode.Decoder.{Decoder}
-use Rattle.data_url.specs.Errors.{IsRefused}
-use Rattle.data_url.specs.Mime.{Every}
-use Rattle.data_url.specs.Run.{IsRun, IsPrefix, joined_pieces, refusal}
-use Rattle.std.specs.Option.{option_or}
-use Rattle.std.specs.Result.{result_err}
-use Rattle.data_url.specs.Steps.Holding.{Adds, CallsOnce, Refuses}
-use Rattle.data_url.specs.declared.forgiving_base64.DecodeError.{DecodeError}
-use Rattle.data_url.specs.declared.forgiving_base64.DecodeError.TheVariants.{WriteError, InvalidBase64}
-use Rattle.data_url.proofs.runs.Runs.{prefix_all, joined_pieces-append, match_alike, match_map, prefix_trans}
-use Rattle.data_url.proofs.runs.Runs.{refusal-append, run-append}
-use Rattle.data_url.proofs.forgiving_base64.Padding.{any_of_text, before-append, before_fault, before_none, classes}
-use Rattle.data_url.proofs.forgiving_base64.Padding.{every_list_all}
-use Rattle.data_url.proofs.forgiving_base64.Padding.{done_is, fault-append, fault_byte, fault_pads, fault_some}
-use Rattle.data_url.proofs.forgiving_base64.Padding.{fault_text, is_pad, kind_is, no_fault_valid, none_fault}
-use Rattle.data_url.proofs.forgiving_base64.Padding.{pads_of_text, symbols_of_text, fits_with, bad, space_alone}
-use Rattle.data_url.proofs.forgiving_base64.Padding.{symbol_alone, done_stays, fault-append_some, kind_stays}
-use Rattle.data_url.specs.Laws.{GoesOn}
 use Rattle.data_url.proofs.forgiving_base64.Groups.{filter_length, groups_size, two_feeds}
+use Rattle.data_url.proofs.forgiving_base64.Padding.{any_of_text, before-append, before_fault, before_none, classes}
+use Rattle.data_url.proofs.forgiving_base64.Padding.{every_list_all, done_is, fault-append, fault_byte, fault_pads}
+use Rattle.data_url.proofs.forgiving_base64.Padding.{fault_some, fault_text, is_pad, kind_is, no_fault_valid}
+use Rattle.data_url.proofs.{forgiving_base64.Padding.{kind_stays}, runs.Runs.{refusal-append, run-append}}
+use Rattle.data_url.proofs.forgiving_base64.Padding.{none_fault, pads_of_text, symbols_of_text, fits_with, bad}
+use Rattle.data_url.proofs.forgiving_base64.Padding.{space_alone, symbol_alone, done_stays, fault-append_some}
+use Rattle.data_url.proofs.runs.Runs.{prefix_all, joined_pieces-append, match_alike, match_map, prefix_trans}
 
 -- What a short text does after what is left over in a decoder, and what the end of the input does.
 

@@ -1,14 +1,14 @@
 -- Blocks of 64 symbols in vectors. For `blocks.rt` and `lanes.rt`.
 use Rattle.std.proofs.Common.{List, [], ◌∷◌, ◌++◌, map, lit<, drop-drop, ◌≡◌, ℕ, ◌<◌, ltb, true, cond, eqb, get_or}
-use Rattle.std.{proofs.Common.{append_assoc, length-take-le}, proofs.lemmas.List.Folds.{list_all-append}}
-use Rattle.std.proofs.Common.{length, take, Fits, w8, ap, length-drop, take-add, ◌+◌, ◌*◌, ◌/◌, ◌%◌, ◌^◌, Bool, not}
-use Rattle.std.proofs.Common.{refl, sym, ◌∙◌, arith, suc, zero, ext_get_or, take_all, subst, ◌≤◌, ◌&&◌, drop, bit_or}
+use Rattle.std.proofs.Common.{append_assoc, length-take-le, length, take, Fits, w8, ap, length-drop, take-add, ◌+◌, ◌*◌}
+use Rattle.std.proofs.Common.{◌/◌, ◌%◌, ◌^◌, Bool, not, refl, sym, ◌∙◌, arith, suc, zero, ext_get_or, take_all, subst}
+use Rattle.std.{proofs.Common.{◌≤◌, ◌&&◌, drop, bit_or}, proofs.lemmas.List.Folds.{list_all-append}}
 use Rattle.std.{proofs.Math.Bool.{and-true, and_assoc}, specs.List.{range_with_len, list_all}}
 use Rattle.std.proofs.lemmas.Bool.{agree_below_at, cond-true, eqb-true, ltb-true, cases_eq, ne_eqb}
 use Rattle.std.proofs.lemmas.List.{get_or-map, length-map, map-append, nil_from_length}
-use Rattle.std.{proofs.lemmas.Nat.{and_le_r, and_le_l, or_lt}, proofs.lemmas.Simd.{SwzOk-from_below, get_or_narrower}}
-use Rattle.std.proofs.lemmas.Simd.{bitmask_splat, chunk-fits, mask_l-lt, zip2_of_maps, Each1-get_or, SwzOk}
-use Rattle.std.proofs.lemmas.Simd.{length-zip2, map-map, get_or-swz_l_below, length-swz_l, pick_l_whole, swz_l}
+use Rattle.std.{proofs.lemmas.Nat.{and_le_r, and_le_l, or_lt}, proofs.lemmas.Simd.{length-swz_l, pick_l_whole, swz_l}}
+use Rattle.std.proofs.lemmas.Simd.{SwzOk-from_below, get_or_narrower, bitmask_splat, chunk-fits, mask_l-lt}
+use Rattle.std.proofs.lemmas.Simd.{zip2_of_maps, Each1-get_or, SwzOk, length-zip2, map-map, get_or-swz_l_below}
 use Rattle.std.specs.Char.{is_ascii_whitespace as std_whitespace, is_ascii_whitespace}
 use Rattle.data_url.specs.Base64.{is_symbol, symbol_value, group_bytes, group_number, groups, after_groups}
 use Rattle.data_url.specs.Steps.Lanes.{mark_of, numbers, value_of}

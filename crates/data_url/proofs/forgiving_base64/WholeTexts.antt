@@ -1,25 +1,18 @@
 -- A whole text, fed and finished. For `decode_whole` and `decode_to_vec`.
+use Rattle.std.proofs.Common.{Err, refl, ap, sym, ◌∙◌, subst, inl, inr, arith, append_assoc, length-append, MatchBool}
+use Rattle.std.{proofs.Common.{MatchOption, append-nil}, proofs.lemmas.Bool.{cases_Bool}, specs.Result.{result_err}}
 use Rattle.std.proofs.Common.{◌≡◌, ◌⊎◌, ℕ, Bool, true, false, cond, List, [], ◌∷◌, ◌++◌, Option, None, Some, Result, Ok}
-use Rattle.std.proofs.Common.{Err, refl, ap, sym, ◌∙◌, subst, inl, inr, arith, append_assoc, length-append}
-use Rattle.std.specs.Prelude.{MatchBool, MatchOption}
-use Rattle.std.proofs.lemmas.List.{append-nil}
-use Rattle.std.proofs.lemmas.Bool.{cases_Bool}
-use Rattle.data_url.specs.Base64.{decoded, complete_bytes, is_valid, kind_of, left_padding, left_symbols, left_text}
-use Rattle.data_url.specs.Steps.Whole.{DecodesText}
-use Rattle.data_url.specs.Decoder.{Feeds, Finishes, IsTaken, State, left_over, start}
-use Rattle.data_url.specs.Errors.{IsRefused}
-use Rattle.data_url.specs.Laws.{GoesOn}
-use Rattle.data_url.specs.Run.{Call, IsPrefix, IsRun, joined_pieces, refusal}
 use Rattle.std.specs.Option.{option_or}
-use Rattle.std.specs.Result.{result_err}
-use Rattle.data_url.specs.declared.forgiving_base64.DecodeError.{DecodeError}
-use Rattle.data_url.specs.declared.forgiving_base64.DecodeError.TheVariants.{InvalidBase64}
-use Rattle.data_url.proofs.forgiving_base64.Steps.{bool_at_false, bool_at_true, feeds_none, feeds_goes_on, feeds_took}
-use Rattle.data_url.proofs.forgiving_base64.Groups.{two_feeds}
-use Rattle.data_url.proofs.runs.Runs.{joined_pieces-append, later_none, match_at, match_map, match_none, prefix_all}
-use Rattle.data_url.proofs.runs.Runs.{prefix_trans, refusal-append, run-append}
+use Rattle.data_url.specs.Base64.{decoded, complete_bytes, is_valid, kind_of, left_padding, left_symbols, left_text}
+use Rattle.data_url.specs.Decoder.{Feeds, Finishes, IsTaken, State, left_over, start}
+use Rattle.data_url.specs.{Errors.{IsRefused}, Laws.{GoesOn}, declared.forgiving_base64.DecodeError.{DecodeError}}
+use Rattle.data_url.specs.Run.{Call, IsPrefix, IsRun, joined_pieces, refusal}
+use Rattle.data_url.specs.{Steps.Whole.{DecodesText}, declared.forgiving_base64.DecodeError.TheVariants.{InvalidBase64}}
+use Rattle.data_url.proofs.{forgiving_base64.Groups.{two_feeds}, runs.Runs.{prefix_trans, refusal-append, run-append}}
 use Rattle.data_url.proofs.forgiving_base64.Padding.{fault_byte, fault_invalid, none_fault, valid_no_fault}
 use Rattle.data_url.proofs.forgiving_base64.Padding.{some_not_none}
+use Rattle.data_url.proofs.forgiving_base64.Steps.{bool_at_false, bool_at_true, feeds_none, feeds_goes_on, feeds_took}
+use Rattle.data_url.proofs.runs.Runs.{joined_pieces-append, later_none, match_at, match_map, match_none, prefix_all}
 
 -- `MatchBool b P Q` gives that b is true, with P, or that b is false, with Q
 split_bool : (b : Bool) (P Q : Type 0) → MatchBool b P Q → ((b ≡ true) × P) ⊎ ((b ≡ false) × Q)

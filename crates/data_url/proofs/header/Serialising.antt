@@ -1,39 +1,28 @@
 -- The suffix `;base64` of a header, and its serialised path and query. For `header.rt`.
-use Rattle.std.proofs.Common.{◌≡◌, ◌≢◌, ℕ, ◌+◌, ◌-◌, ◌<◌, ◌≤◌, List, [], ◌∷◌, length, get_or, take, drop, map, codes}
 use Rattle.std.proofs.Common.{None, Some, ap, ◌∙◌, arith, suc, Bool, false, ◌++◌, length-append, reverse, Option}
+use Rattle.std.proofs.Common.{get_or-drop, append-nil, take-append-drop, take_all}
 use Rattle.std.proofs.Common.{is_some, refl, append_assoc, ◌⊎◌, true, sym, inl, inr, ⊎_elim, eqb-true, subst, zero}
-use Rattle.std.specs.Prelude.{option_and_then, ◌==◌}
-use Rattle.std.specs.Char.{to_ascii_lowercase}
-use Rattle.std.specs.List.{suffix_len, prefix_len}
-use Rattle.std.specs.Str.{bytes_eq}
-use Rattle.std.proofs.lemmas.List.{length-map, length-take, drop_all, drop_more, get_or-take, length-drop}
-use Rattle.std.proofs.lemmas.List.{length-take-le, take-take, drop-append-le, get_or_at, get_or-drop, get_or-map}
-use Rattle.std.proofs.lemmas.List.{reverse-append, take_rest, append-nil, get_or-reverse, length-reverse}
-use Rattle.std.proofs.lemmas.List.{take-append-drop, take_all, take_more}
+use Rattle.std.proofs.Common.{option_and_then, ◌==◌, length-take, get_or-take, length-drop, length-take-le, take-take}
+use Rattle.std.proofs.Common.{◌≡◌, ◌≢◌, ℕ, ◌+◌, ◌-◌, ◌<◌, ◌≤◌, List, [], ◌∷◌, length, get_or, take, drop, map, codes}
+use Rattle.std.{proofs.Math.Seq.{drop-append-add, take-append-add}, specs.Option.{option_map}, specs.Str.{bytes_eq}}
+use Rattle.std.{proofs.lemmas.Bool.{cases_lt, ne_eqb, cases_Bool, not-true, not-false}, specs.Char.{to_ascii_lowercase}}
+use Rattle.std.{proofs.lemmas.List.Folds.{prefix_len-append}, proofs.lemmas.Slice.Eq.{bytes_eq-Decides}}
+use Rattle.std.{proofs.lemmas.List.Sums.{prefix_len_passes, prefix_len_stops}, specs.List.{suffix_len, prefix_len}}
 use Rattle.std.proofs.lemmas.List.Sums.{suffix_len-le-length, prefix_len-drop_no, prefix_len-le-length}
-use Rattle.std.proofs.lemmas.List.Sums.{prefix_len_passes, prefix_len_stops}
-use Rattle.std.proofs.lemmas.Slice.Eq.{bytes_eq-Decides}
-use Rattle.data_url.specs.Url.{is_c0_control_or_space, without_end, before, after, without_tabs_and_newlines}
-use Rattle.data_url.specs.Url.{encoded_byte, encoded_path, in_path_set, in_query_set}
-use Rattle.data_url.specs.Url.{is_tab_or_newline, percent_encoding, after_scheme, cleaned_text, serialised}
-use Rattle.data_url.specs.Url.{trimmed_text, with_query, without_front}
+use Rattle.std.proofs.lemmas.List.{length-map, drop_all, drop_more, drop-append-le, get_or_at, get_or-map}
+use Rattle.std.proofs.lemmas.List.{reverse-append, take_rest, get_or-reverse, length-reverse, take_more}
+use Rattle.data_url.specs.{Facts.{base64_flag, serialised_with_spaces}, Steps.Header.{header_text, is_no_question_mark}}
 use Rattle.data_url.specs.Fetch.{before_base64, before_semicolon, is_space, before_word, has_base64_suffix}
-use Rattle.data_url.specs.Fetch.{stripped_header, before_comma}
+use Rattle.data_url.specs.{Fetch.{stripped_header, before_comma}, Mime.{DoesNotEnd}}
 use Rattle.data_url.specs.Steps.Header.{IsPrintable, HasNoLastSpace, IsPathAndQuery, WithoutSpace, encoded_parts}
-use Rattle.data_url.specs.Steps.Header.{header_text, is_no_question_mark}
-use Rattle.data_url.proofs.header.Stages.{low_end, printable_take}
-use Rattle.std.specs.Option.{option_map}
-use Rattle.std.proofs.Math.Seq.{drop-append-add, take-append-add}
-use Rattle.std.proofs.lemmas.List.Folds.{prefix_len-append}
-use Rattle.std.proofs.lemmas.Bool.{cases_lt, ne_eqb, cases_Bool, not-true, not-false}
-use Rattle.data_url.proofs.texts.Bytes.{before_all, before_at, after-dropped_none, after_at, after_none}
-use Rattle.data_url.proofs.texts.Bytes.{without_tabs_and_newlines-append, dropped_around, dropped_keeps, dropped_nil}
-use Rattle.data_url.proofs.texts.Bytes.{dropped_passes, before-append, after-append, before_other, after_other, is_cut}
+use Rattle.data_url.specs.Url.{encoded_byte, encoded_path, in_path_set, in_query_set, is_tab_or_newline}
+use Rattle.data_url.specs.Url.{is_c0_control_or_space, without_end, before, after, without_tabs_and_newlines}
+use Rattle.data_url.specs.Url.{percent_encoding, after_scheme, cleaned_text, serialised, trimmed_text, with_query}
+use Rattle.data_url.proofs.{front.Cuts.{cut_at}, header.Stages.{low_end, printable_take}, percent.Encoding.{encoded}}
 use Rattle.data_url.proofs.percent.Encoding.{encoded_cons, encoded_nil, path_cons, path_nil, percent_encoding-append}
-use Rattle.data_url.proofs.percent.Encoding.{encoded}
-use Rattle.data_url.specs.Facts.{base64_flag, serialised_with_spaces}
-use Rattle.data_url.specs.Mime.{DoesNotEnd}
-use Rattle.data_url.proofs.front.Cuts.{cut_at}
+use Rattle.data_url.proofs.texts.Bytes.{before_all, before_at, after-dropped_none, after_at, after_none, dropped_around}
+use Rattle.data_url.proofs.texts.Bytes.{before_other, after_other, is_cut}
+use Rattle.data_url.proofs.texts.Bytes.{dropped_keeps, dropped_nil, dropped_passes, before-append, after-append}
 
 -- the word of the suffix
 abbrev pub word : List ℕ
@@ -81,16 +70,14 @@ before_one s n l = grind (arith, length-take-le, take-take)
 pub no_semicolon : (s : List ℕ) (n spaces m : ℕ) → IsPrintable s → HasWord s n spaces → n - spaces ≡ m + 1
     → get_or s m 0 ≢ 59 → before_base64 s ≡ None
 no_semicolon s n spaces m p h e ne =
-    let one = last_one s m (omega (arith, h.six)) in
-    after_word s n spaces p h ∙ ap (λ k. before_semicolon (take k s)) e ∙ grind (arith, bytes_eq-Decides)
+    let one = last_one s m (omega (arith, h.six)) in grind (arith, after_word s n spaces p h, bytes_eq-Decides)
 
 -- if the byte before the spaces and the word is a ';' at index m, the text before the suffix is the first m bytes
 pub with_semicolon : (s : List ℕ) (n spaces m : ℕ) → IsPrintable s → HasWord s n spaces → n - spaces ≡ m + 1
     → get_or s m 0 ≡ 59 → before_base64 s ≡ Some (take m s)
 with_semicolon s n spaces m p h e is =
     let one = last_one s m (omega (arith, h.six)) in
-    let front = before_one s m (omega (arith, h.six)) in
-    after_word s n spaces p h ∙ ap (λ k. before_semicolon (take k s)) e ∙ grind (arith, bytes_eq-Decides)
+    let front = before_one s m (omega (arith, h.six)) in grind (arith, after_word s n spaces p h, bytes_eq-Decides)
 
 -- if b does not pass, the longest suffix of x ++ b ∷ q that passes is as long as that of q
 pub suffix_stop : (p : ℕ → Bool) (x q : List ℕ) (b : ℕ) → p b ≡ false → suffix_len p (x ++ b ∷ q) ≡ suffix_len p q
@@ -141,8 +128,7 @@ after_mark None = false
 after_mark (Some m) = bytes_eq (last_bytes 1 (63 ∷ without_end is_space m)) (codes ";")
 
 -- if "base64" comes after a '?', whether there is a suffix does not depend on what is before the '?'
-by_word : (x : List ℕ) (o : Option (List ℕ))
-    → is_some (option_and_then (λ m. before_semicolon (without_end is_space m))
+by_word : (x : List ℕ) (o : Option (List ℕ)) → is_some (option_and_then (λ m. before_semicolon (without_end is_space m))
     (option_map (λ m. (x ++ 63 ∷ []) ++ m) o)) ≡ after_mark o
 by_word x None = refl
 by_word x (Some m) = grind (arith, append_assoc, end_after, last_after)
@@ -197,20 +183,16 @@ suffix_passes p s m k e far l =
 -- the byte before the longest suffix that passes does not pass
 pub suffix_stops : (p : ℕ → Bool) (s : List ℕ) (m n : ℕ) → m ≡ suffix_len p s → length s ≡ (n + 1) + m
     → p (get_or s n 0) ≡ false
-suffix_stops p s m n e at =
-    grind (arith, get_or-reverse s m 0, prefix_len_stops p (reverse s) 0, length-reverse s)
+suffix_stops p s m n e at = grind (arith, get_or-reverse s m 0, prefix_len_stops p (reverse s) 0, length-reverse s)
 
--- if byte n is the last byte of a text that is not a tab or newline, the text without these is the first n bytes
--- without these, and then byte n
+-- if only tabs and newlines follow byte n, the text without these is the first n bytes without these, and byte n
 pub dropped_end : (s : List ℕ) (m n : ℕ) → m ≡ suffix_len is_tab_or_newline s → length s ≡ (n + 1) + m
     → without_tabs_and_newlines s ≡ without_tabs_and_newlines (take n s) ++ get_or s n 0 ∷ []
 dropped_end s m n e at =
-    let none : without_tabs_and_newlines (drop (n + 1) s) ≡ [] = all_dropped (drop (n + 1) s) (λ k w.
-    grind (arith, get_or-drop (n + 1) s k 0, suffix_passes is_tab_or_newline s m (n + 1 + k), length-drop (n + 1) s)) in
-    cc (
-      cut_at s n (omega arith),
-      dropped_around (get_or s n 0) (suffix_stops is_tab_or_newline s m n e at) (take n s) (drop (n + 1) s),
-    )
+    let none : without_tabs_and_newlines (drop (n + 1) s) ≡ [] =
+    grind (arith, all_dropped, get_or-drop, suffix_passes, length-drop) in
+    let stops = suffix_stops is_tab_or_newline s m n e at in
+    cc (cut_at s n (omega arith), dropped_around (get_or s n 0) stops (take n s) (drop (n + 1) s))
 
 -- if the last byte of a path that is not a tab or newline is not a space, the path has no last space
 pub has_other_end : (s : List ℕ) (m n : ℕ) → m ≡ suffix_len is_tab_or_newline s → length s ≡ (n + 1) + m
@@ -228,15 +210,7 @@ header_and_query : (path rest : List ℕ) → after 63 path ≡ None
     (without_tabs_and_newlines path) ++ percent_encoding in_query_set (without_tabs_and_newlines (63 ∷ rest))
 unfolding header_text
 header_and_query path rest h =
-    grind (
-      arith,
-      after-dropped_none,
-      dropped_keeps,
-      encoded_cons,
-      without_tabs_and_newlines-append,
-      before_at,
-      after_at,
-    )
+    grind (arith, after-dropped_none, dropped_keeps, dropped_around, encoded_cons, before_at, after_at)
 
 -- if the path has no last space, or there is no query, the encoded path and query are the serialised header
 pub parts_whole : (header path query : List ℕ) → IsPathAndQuery header path query → (query ≡ []) ⊎ HasNoLastSpace path
@@ -245,8 +219,7 @@ unfolding header_text
 parts_whole header path query h end =
     grind (arith, dropped_nil, encoded_nil, after-dropped_none, before_all, append-nil, header_and_query)
 
--- if the path has a last space, and there is a query, the encoded path without that space, "%20", and the encoded query
--- are the serialised header
+-- if a query follows a last space, the path without it, encoded, "%20", and the encoded query are the header
 pub parts_spaced : (header path front query : List ℕ) → IsPathAndQuery header path query → query ≢ []
     → WithoutSpace path front → encoded_parts front (codes "%20") query ≡ header_text (without_tabs_and_newlines header)
 parts_spaced header path front query h there w = grind (arith, append_assoc, path_space, header_and_query)
@@ -257,18 +230,13 @@ pub cut_at_query : (text : List ℕ) (n : ℕ) → n ≡ prefix_len is_no_questi
 cut_at_query text n e = record {
   joined = sym (take-append-drop n text);
   path_ends = grind (arith, after_none, length-take, get_or-take, not-true, prefix_len_passes);
-  query_begins = ⊎_elim
-      (λ (l : n < length text). inr (
-        drop (n + 1) text,
-        cc (
-          drop_more text n 0 l,
-          eqb-true (get_or text n 0) 63 (not-false _ (subst (λ m. is_no_question_mark (get_or
-              text m 0) ≡ false) (sym e) (prefix_len_stops is_no_question_mark text 0 (subst (λ m. m < length text) e
-              l)))),
-        ),
-      ))
-      (λ (l : length text ≤ n). inl (drop_all n text l))
-      (cases_lt n (length text));
+  query_begins = elim (cases_lt n (length text)) [
+    | inl l ↦
+        let stops = prefix_len_stops is_no_question_mark text 0 (omega arith) in
+        let is : get_or text n 0 ≡ 63 = eqb-true (get_or text n 0) 63 (not-false _ (rw e stops)) in
+        inr (drop (n + 1) text, cc (drop_more text n 0 l))
+    | inr l ↦ inl (drop_all n text l)
+  ];
 }
 
 -- a text does not end with a code point that passes if its last code point does not pass
@@ -281,11 +249,9 @@ ends_from p (c ∷ d ∷ s) h =
 
 -- a text without its end of C0 controls and spaces does not end with one
 ends_trimmed : (s : List ℕ) → DoesNotEnd is_c0_control_or_space (without_end is_c0_control_or_space s)
-ends_trimmed s = ends_from is_c0_control_or_space (without_end is_c0_control_or_space s)
-    (λ l. grind (arith, suffix_len-le-length, length-take, suffix_stops, get_or-take))
+ends_trimmed s = grind (arith, ends_from, suffix_len-le-length, length-take, suffix_stops, get_or-take)
 
--- a text that does not end with one, and is not empty, does not end with a space without tabs and newlines, and is not
--- empty then either
+-- a text that is not empty, and does not end with one, is neither empty nor ends with a space without tabs and newlines
 ends_dropped : (c : ℕ) (s : List ℕ) → DoesNotEnd is_c0_control_or_space (c ∷ s)
     → DoesNotEnd is_space (without_tabs_and_newlines (c ∷ s)) × (without_tabs_and_newlines (c ∷ s) ≢ [])
 ends_dropped c [] h = grind (arith, dropped_keeps, dropped_nil)
@@ -306,11 +272,7 @@ ends_whole (c ∷ s) h = (ends_dropped c s h).0
 -- what follows the scheme does not end with a space
 pub no_last_space : (t a : List ℕ) → after_scheme t ≡ Some a → DoesNotEnd is_space a
 unfolding after_scheme cleaned_text trimmed_text
-no_last_space t a h =
-    let s = without_end is_c0_control_or_space (without_front is_c0_control_or_space t) in
-    let rest : a ≡ drop 5 (without_tabs_and_newlines s) = grind arith in
-    rw rest (ends_after 5 (without_tabs_and_newlines s)
-    (ends_whole s (ends_trimmed (without_front is_c0_control_or_space t))))
+no_last_space t a h = grind (arith, ends_after, ends_whole, ends_trimmed)
 
 -- an encoded path is the same by both rules, or ends with "%20" by one and with a space by the other
 data Differs (path : List ℕ) : Type 0 where
@@ -323,7 +285,7 @@ differs_by : (path : List ℕ) → Differs path
 differs_by [] = grind (arith, path_nil, encoded_nil)
 differs_by (b ∷ []) = elim (cases_Bool (b == 32)) [
   | inl e ↦ rw (eqb-true b 32 e)
-      (last_space [] (path_space [] ∙ grind (arith, encoded_nil)) (grind (arith, encoded_cons, encoded_nil)))
+      (last_space [] (grind (arith, path_space [], encoded_nil)) (grind (arith, encoded_cons, encoded_nil)))
   | inr e ↦ same_path (path_other [] b e)
 ]
 differs_by (b ∷ c ∷ s) = elim (differs_by (c ∷ s)) [
@@ -337,8 +299,7 @@ comma_before : (x y rest : List ℕ) → after 44 x ≡ Some rest → before_com
 comma_before x y rest h = grind (arith, is_cut 44 x rest h, append_assoc, after_at, before_at)
 
 -- if the text before a '?' has no comma, the flag does not depend on that text
-flag_after : (u v query : List ℕ) → after 44 u ≡ None → after 44 v ≡ None → (o : Option (List ℕ))
-    → after 44 query ≡ o
+flag_after : (u v query : List ℕ) → after 44 u ≡ None → after 44 v ≡ None → (o : Option (List ℕ)) → after 44 query ≡ o
     → base64_flag (u ++ 63 ∷ query) ≡ base64_flag (v ++ 63 ∷ query)
 flag_after u v query h k None e = grind (arith, after-append, after_other)
 flag_after u v query h k (Some rest) e = grind (arith, same_flag, after-append, before-append, before_other)
@@ -362,8 +323,7 @@ flag_of_path x (Some rest) e = grind (arith, comma_before)
 
 -- with any query, and without one, the flag does not depend on the rule by which the path is encoded
 flag_by : (path : List ℕ) (o : Option (List ℕ)) → Differs path
-    → base64_flag (with_query (encoded_path path) o)
-    ≡ base64_flag (with_query (percent_encoding in_path_set path) o)
+    → base64_flag (with_query (encoded_path path) o) ≡ base64_flag (with_query (percent_encoding in_path_set path) o)
 flag_by path None (same_path e) = ap base64_flag e
 flag_by path (Some query) (same_path e) = grind arith
 flag_by path None (last_space x e f) = grind (arith, flag_of_path)

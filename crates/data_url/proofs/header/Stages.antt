@@ -1,42 +1,29 @@
 -- The stages of the Standard, from the input to its record. For `DataUrl::process`.
-use Rattle.std.proofs.Common.{◌≡◌, ℕ, suc, ◌<◌, ◌≤◌, Bool, false, List, [], ◌∷◌, ◌++◌, length, get_or, take, drop, None}
+use Rattle.std.proofs.Common.{Option, unwrap_or, get_or-drop, get_or-take, length-drop, take-append-drop, length-take}
 use Rattle.std.proofs.Common.{Some, refl, sym, ap, ◌∙◌, inl, inr, eqb-true, subst, arith, map, codes, ◌≢◌, is_some}
-use Rattle.std.proofs.Common.{Option, unwrap_or}
-use Rattle.std.specs.Prelude.{option_and_then}
-use Rattle.std.specs.List.{prefix_len, suffix_len, AllByRecursion}
-use Rattle.std.specs.Str.{chars}
-use Rattle.std.proofs.lemmas.Bool.{cases_Bool}
-use Rattle.std.proofs.lemmas.Slice.Eq.{bytes_eq-Decides}
-use Rattle.std.proofs.lemmas.List.{get_or-drop, get_or-reverse, get_or-take, get_or_past, length-drop, length-reverse}
-use Rattle.std.proofs.lemmas.List.{take-append-drop, length-take, drop_at, length-map, take_at}
-use Rattle.data_url.specs.Url.{before, after, is_c0_control_or_space, percent_encoding, trimmed_text, after_scheme}
-use Rattle.data_url.specs.Url.{cleaned_text, without_tabs_and_newlines, fragment, front, is_tab_or_newline, serialised}
-use Rattle.data_url.specs.Url.{in_fragment_set}
-use Rattle.data_url.specs.Fetch.{is_space, stripped_header, encoded_body, header_of, staged_front, tail_of}
-use Rattle.data_url.specs.Fetch.{before_base64, has_base64_suffix, media_of, mime_text, with_plain, Accepted, NoComma}
+use Rattle.std.{proofs.Common.{drop_at, take_at}, proofs.lemmas.Slice.Eq.{bytes_eq-Decides}, specs.Option.{option_map}}
+use Rattle.std.proofs.Common.{◌≡◌, ℕ, suc, ◌<◌, ◌≤◌, Bool, false, List, [], ◌∷◌, ◌++◌, length, get_or, take, drop, None}
+use Rattle.std.{proofs.Math.Seq.{drop-append_seam}, proofs.lemmas.Bool.{cases_Bool}, proofs.lemmas.Str.{chars-IsAscii}}
+use Rattle.std.proofs.lemmas.List.Elements.{All-drop, All-from_get_or, All-from_recursion, All-take, recursion_from_All}
+use Rattle.std.proofs.lemmas.List.{get_or-reverse, get_or_past, length-reverse, length-map}
+use Rattle.std.{specs.Char.{to_ascii_lowercase}, specs.List.{prefix_len, suffix_len, AllByRecursion}, specs.Str.{chars}}
+use Rattle.data_url.specs.{DataUrl.{IsAcceptable, IsUrlOf, is_base64, mime_of, url_tail}, declared.DataUrl.{DataUrl}}
 use Rattle.data_url.specs.Fetch.{NoScheme, outcome, plain_body, staged}
-use Rattle.data_url.specs.Steps.Header.{IsPrintable, header_text, IsHeaderOf, IsRecordFor}
+use Rattle.data_url.specs.Fetch.{before_base64, has_base64_suffix, media_of, mime_text, with_plain, Accepted, NoComma}
+use Rattle.data_url.specs.Fetch.{is_space, stripped_header, encoded_body, header_of, staged_front, tail_of}
+use Rattle.data_url.specs.Mime.{HasNoRecord, Record, default_record, BeginsParameters, IsHead, IsRecordOfParts}
+use Rattle.data_url.specs.{MimeType.{record_of}, Steps.Front.{HasNoScheme, IsHeaderAndTail, IsSchemeAndRest}}
+use Rattle.data_url.specs.{Percent.{percent_decoding}, Steps.Header.{IsPrintable, header_text, IsHeaderOf, IsRecordFor}}
+use Rattle.data_url.specs.Url.{before, after, is_c0_control_or_space, percent_encoding, trimmed_text, after_scheme}
+use Rattle.data_url.specs.Url.{cleaned_text, without_tabs_and_newlines, fragment, front, serialised, in_fragment_set}
+use Rattle.data_url.proofs.{examples.Literals.{on_literals}, runs.Runs.{none_or_some}}
+use Rattle.data_url.proofs.{mime.FirstNames.{head_wellformed, parses_parts}, percent.Encoding.{serialised_recoded}}
 use Rattle.data_url.proofs.percent.Encoding.{IsBytes, encoded_cons, encoded_nil, header_nil, header_path, header_query}
 use Rattle.data_url.proofs.percent.Encoding.{Recoded, before-serialised, recoded-decoded, recoded_tails}
-use Rattle.data_url.proofs.percent.Encoding.{serialised_recoded}
-use Rattle.std.specs.Option.{option_map}
-use Rattle.std.specs.Char.{to_ascii_lowercase}
-use Rattle.data_url.specs.Percent.{percent_decoding}
-use Rattle.data_url.specs.Steps.Front.{HasNoScheme, IsHeaderAndTail, IsSchemeAndRest}
+use Rattle.data_url.proofs.texts.Bytes.{after-dropped_none, after_at, after_dropped, after_nil, after_other}
 use Rattle.data_url.proofs.texts.Bytes.{before-append, before_nil, before_other, before_same, after-append}
-use Rattle.data_url.proofs.texts.Bytes.{after-dropped_none, after_at, after_nil, after_other}
-use Rattle.data_url.proofs.texts.Bytes.{without_tabs_and_newlines-append, dropped_around, dropped_keeps, dropped_nil}
 use Rattle.data_url.proofs.texts.Bytes.{before_all, before_at, dropped_passes, is_cut, lacks}
-use Rattle.data_url.proofs.runs.Runs.{none_or_some}
-use Rattle.std.proofs.lemmas.Str.{chars-IsAscii}
-use Rattle.data_url.specs.Mime.{HasNoRecord, Parses, Record, default_record, BeginsParameters, IsHead, IsRecordOfParts}
-use Rattle.data_url.proofs.examples.Literals.{on_literals}
-use Rattle.data_url.proofs.mime.FirstNames.{parses_parts, parses_wellformed}
-use Rattle.data_url.specs.DataUrl.{IsAcceptable, IsUrlOf, is_base64, mime_of, url_tail}
-use Rattle.data_url.specs.MimeType.{record_of}
-use Rattle.data_url.specs.declared.DataUrl.{DataUrl}
-use Rattle.std.proofs.lemmas.List.Elements.{All-drop, All-from_get_or, All-from_recursion, All-take, recursion_from_All}
-use Rattle.std.proofs.Math.Seq.{drop-append_seam}
+use Rattle.data_url.proofs.texts.Bytes.{without_tabs_and_newlines-append, dropped_around, dropped_keeps, dropped_nil}
 
 -- a text of bytes, encoded with a set that has all bytes that are not printable, is printable
 encoded_printable : (p : ℕ → Bool) → ((b : ℕ) → p b ≡ false → (32 ≤ b) × (b < 127)) → (s : List ℕ) → IsBytes s
@@ -51,8 +38,7 @@ header_all (b ∷ s) h = grind (arith, header_query, encoded_printable, header_p
 
 -- the serialised text of a header of bytes is printable
 pub header_text_printable : (s : List ℕ) → IsBytes s → IsPrintable (header_text s)
-header_text_printable s h i l =
-    All-from_recursion (λ b. (32 ≤ b) × (b < 127)) (header_text s) (header_all s h) i 0 l
+header_text_printable s h i l = grind (arith, All-from_recursion, header_all)
 
 -- the first n bytes of a printable text are printable
 pub printable_take : (n : ℕ) (s : List ℕ) → IsPrintable s → IsPrintable (take n s)
@@ -83,8 +69,7 @@ is_byte b = b < 256
 
 -- a text of bytes without its first n bytes is a text of bytes
 bytes_drop : (n : ℕ) (s : List ℕ) → IsBytes s → IsBytes (drop n s)
-bytes_drop n s h =
-    recursion_from_All is_byte (drop n s) (All-drop is_byte n s (All-from_recursion is_byte s h))
+bytes_drop n s h = recursion_from_All is_byte (drop n s) (All-drop is_byte n s (All-from_recursion is_byte s h))
 
 -- a text of bytes without tabs and newlines is a text of bytes
 pub bytes_dropped : (s : List ℕ) → IsBytes s → IsBytes (without_tabs_and_newlines s)
@@ -103,11 +88,6 @@ lacks_comma [] h = h
 lacks_comma (b ∷ d) h =
     let l = lacks 44 (to_ascii_lowercase b) (map to_ascii_lowercase d) h in
     after_other 44 b d (grind arith) ∙ lacks_comma d l.after_it
-
--- if c is not a tab or newline, what follows the first c does so after tabs and newlines are dropped
-after_dropped : (c : ℕ) → is_tab_or_newline c ≡ false → (s rest : List ℕ) → after c s ≡ Some rest
-    → after c (without_tabs_and_newlines s) ≡ Some (without_tabs_and_newlines rest)
-after_dropped c k s rest h = grind (arith, is_cut c s rest h, dropped_around, after_at, after-dropped_none)
 
 -- there is no comma in "data:"
 abbrev scheme_lacks : after 44 (codes "data:") ≡ None
@@ -133,17 +113,12 @@ unfolding after_scheme cleaned_text
 after_is t rest h =
     let s = without_tabs_and_newlines h.scheme in
     let five : length s ≡ 5 = sym (length-map s to_ascii_lowercase) ∙ ap length h.spelled in
-    cc (
-      h.joined,
-      without_tabs_and_newlines-append h.scheme rest,
-      take_at s (without_tabs_and_newlines rest) 5 five,
-      drop_at s (without_tabs_and_newlines rest) 5 five,
-    )
+    let r = without_tabs_and_newlines rest in
+    cc (without_tabs_and_newlines-append h.scheme rest, take_at s r 5 five, drop_at s r 5 five)
 
 -- a text that is cut at its first comma is so without tabs and newlines
-dropped_parts : {rest header tail : List ℕ} → IsHeaderAndTail rest header tail
-    → IsHeaderAndTail (without_tabs_and_newlines rest) (without_tabs_and_newlines header)
-    (without_tabs_and_newlines tail)
+dropped_parts : {rest header tail : List ℕ} → IsHeaderAndTail rest header tail → IsHeaderAndTail
+    (without_tabs_and_newlines rest) (without_tabs_and_newlines header) (without_tabs_and_newlines tail)
 dropped_parts {rest} {header} {tail} h = search (arith, dropped_around, after-dropped_none)
 
 -- the fragment of a text that is cut at its first comma is that of its tail
@@ -161,14 +136,9 @@ front_of : (t a : List ℕ) → after_scheme t ≡ Some a → staged_front t ≡
 unfolding staged_front
 front_of t a h = grind arith
 
--- s has a comma; t is the text after it with some bytes percent-encoded
-record HasTail (s t : List ℕ) : Type 0 where
-  pub rest : List ℕ
-  pub is : after 44 s ≡ Some rest
-  pub recoded : Recoded t rest
-
 -- a text of a header, the first comma, and a tail t has, when it is serialised, a tail that is t, recoded
-has_tail : (s header t : List ℕ) → IsBytes s → s ≡ header ++ 44 ∷ t → after 44 header ≡ None → HasTail (serialised s) t
+has_tail : (s header t : List ℕ) → IsBytes s → s ≡ header ++ 44 ∷ t → after 44 header ≡ None
+    → (rest : List ℕ) × (after 44 (serialised s) ≡ Some rest) × Recoded t rest
 has_tail s header t b e h = grind (arith, after_at, recoded_tails, serialised_recoded)
 
 -- the stages of a text, by its header and its tail without tabs and newlines
@@ -185,16 +155,11 @@ unfolding header_of encoded_body front
 has_stages {t} {a} {header} {tail} e b h =
     let f = front_of t a e in
     let k = has_tail (front a) header (front tail) (bytes_before 35 a b) (front_cut h) h.no_comma in
-    record {
-      body = k.rest;
-      header_is = cc (f, front_cut h, before-serialised header (front tail) h.no_comma, k.is);
-      body_is = ap (option_and_then (after 44)) f ∙ k.is;
-      decoded_is = recoded-decoded k.recoded;
-    }
+    let whole = before-serialised header (front tail) h.no_comma in
+    record { body = k.0; header_is = cc (front_cut h); body_is = cc; decoded_is = recoded-decoded k.2 }
 
 -- the stages of a text that is accepted, by its raw header and tail
 pub record IsAccepted (t header tail : List ℕ) : Type 0 where
-  pub header_is : header_of t ≡ Some (header_text (without_tabs_and_newlines header))
   pub stages : HasStages t (without_tabs_and_newlines header) (without_tabs_and_newlines tail)
   pub tail_is : tail_of t ≡ Some tail
 
@@ -204,11 +169,7 @@ pub is_accepted : (t rest header tail : List ℕ) → IsBytes rest → IsSchemeA
 unfolding tail_of
 is_accepted t rest header tail b s h =
     let k = has_stages (after_is t rest s) (bytes_dropped rest b) (dropped_parts h) in
-    record {
-      header_is = k.header_is;
-      stages = k;
-      tail_is = grind (arith, after-append, scheme_has_no_comma, after_at);
-    }
+    record { stages = k; tail_is = grind (arith, after-append, scheme_has_no_comma, after_at) }
 
 -- a text of which what follows the scheme has no comma before its first '#' has no header
 no_header : (t a : List ℕ) → after_scheme t ≡ Some a → IsBytes a → after 44 (front a) ≡ None → header_of t ≡ None
@@ -219,8 +180,7 @@ no_header t a e b h =
     cc (front_of t a e)
 
 -- if a text has no comma before its first '#', neither has the text without tabs and newlines
-front_lacks : (rest : List ℕ) → after 44 (front rest) ≡ None → after 44 (front (without_tabs_and_newlines rest))
-    ≡ None
+front_lacks : (rest : List ℕ) → after 44 (front rest) ≡ None → after 44 (front (without_tabs_and_newlines rest)) ≡ None
 unfolding front
 front_lacks rest h = elim (none_or_some (after 35 rest)) [
   | inl e ↦ grind (arith, before_all, after-dropped_none)
@@ -238,13 +198,9 @@ unfolding on_literals
 default_for s m n e = grind arith
 
 -- the record of "text", "plain", and the parameter "charset" with the value "US-ASCII" is the default record
-pub default_is : (type_ subtype charset value : List ℕ) → type_ ≡ codes "text" → subtype ≡ codes "plain"
-    → charset ≡ codes "charset" → value ≡ codes "US-ASCII"
-    → ◌≡◌ {A = Record} (record {
-      type_ = chars type_;
-      subtype = chars subtype;
-      parameters = (chars charset, chars value) ∷ [];
-    }) default_record
+pub default_is : (type_ subtype charset value : List ℕ) → type_ ≡ codes "text" → subtype ≡ codes "plain" → charset
+    ≡ codes "charset" → value ≡ codes "US-ASCII" → ◌≡◌ {A = Record} (record
+    { type_ = chars type_; subtype = chars subtype; parameters = (chars charset, chars value) ∷ [] }) default_record
 unfolding chars
 default_is type_ subtype charset value a b c d = grind arith
 
@@ -263,8 +219,7 @@ pub plain_added : (media : List ℕ) → IsPrintable media → get_or media 0 0 
 plain_added [] p h = absurd (omega (arith, h))
 plain_added (c ∷ s) p h = grind (arith, chars_printable (c ∷ s) p)
 
--- if s is a printable header without C0 controls and spaces at both ends, and o is the text before its base64 suffix,
--- the record for `with_plain` of o, or of s if there is none, is the record of the header; the flag is that of o
+-- if s is a printable header, trimmed, and o is the text before its suffix, the record of o, or of s, is the header's
 pub suffix_is : (header s : List ℕ) (o : Option (List ℕ)) (m : Record) → IsPrintable header → s ≡ trimmed_text header
     → o ≡ before_base64 s → IsRecordFor (with_plain (unwrap_or o s)) m → IsHeaderOf header m (is_some o)
 unfolding mime_text media_of has_base64_suffix
@@ -275,8 +230,7 @@ suffix_is header s o m p e f h =
 -- the record of the parts of a text is the record for it
 pub parts_for : {s x a b c : List ℕ} (m : Record) → s ≡ x → IsHead s a b c → IsRecordOfParts a b c m → IsRecordFor x m
 parts_for {s} {x} {a} {b} {c} m e h p =
-    let q = subst (λ t. Parses t m) e (parses_parts s a b c m h p) in
-    record { is_record = inl q; wellformed = parses_wellformed x m q }
+    record { is_record = inl (rw (← e) (parses_parts s a b c m h p)); wellformed = head_wellformed h p }
 
 -- a text with ';' at index 0 begins with ';'
 pub begins_at : (s : List ℕ) → get_or s 0 0 ≡ 59 → BeginsParameters s
@@ -292,8 +246,7 @@ stages_no_scheme t h = rw h refl
 pub rest_bytes : (t rest : List ℕ) → IsBytes (trimmed_text t) → IsSchemeAndRest (trimmed_text t) rest → IsBytes rest
 rest_bytes t rest b s = subst IsBytes (drop-append_seam s.scheme rest) (bytes_drop _ _ (subst IsBytes s.joined b))
 
--- if the trimmed text has the scheme, and there is no comma in the rest before its first '#', the Standard finds no
--- comma
+-- if the trimmed text has the scheme, and its rest no comma before its first '#', the Standard finds no comma
 pub stages_no_comma : (t rest : List ℕ) → IsBytes (trimmed_text t) → IsSchemeAndRest (trimmed_text t) rest
     → after 44 (front rest) ≡ None → staged t ≡ NoComma
 unfolding staged
@@ -301,8 +254,7 @@ stages_no_comma t rest b s h =
     let a = after_is t rest s in
     cc (a, no_header t _ a (bytes_dropped rest (rest_bytes t rest b s)) (front_lacks rest h))
 
--- if the trimmed text is the scheme, a header, the first comma, and a tail, the Standard accepts it; the MIME type is
--- that of the header, and the body and the fragment are those of the tail
+-- the Standard accepts the scheme, a header, the first comma, and a tail, with their MIME type, body and fragment
 pub stages_accepted : (t rest header tail : List ℕ) → IsBytes (trimmed_text t) → IsSchemeAndRest (trimmed_text t) rest
     → IsHeaderAndTail rest header tail → (flag : Bool)
     → flag ≡ has_base64_suffix (header_text (without_tabs_and_newlines header))
@@ -316,13 +268,10 @@ stages_accepted t rest header tail b s h flag f =
 -- if the trimmed text is the scheme, a header, the first comma, and a tail, the Standard accepts it
 pub is_acceptable : (t rest header tail : List ℕ) → IsBytes (trimmed_text t) → IsSchemeAndRest (trimmed_text t) rest
     → IsHeaderAndTail rest header tail → IsAcceptable (staged t)
-is_acceptable t rest header tail b s h =
-    subst IsAcceptable (sym
-    (stages_accepted t rest header tail b s h (has_base64_suffix (header_text (without_tabs_and_newlines header)))
-    refl)) tt
+is_acceptable t rest header tail b s h = subst IsAcceptable (sym (stages_accepted t rest header tail b s h
+    (has_base64_suffix (header_text (without_tabs_and_newlines header))) refl)) tt
 
--- if the trimmed text is the scheme, a header, the first comma, and the tail of u, and the record and the flag of u are
--- those of the header, then u is the URL of the text
+-- u is the URL of the scheme, a header, the first comma, and its tail, if its record and flag are those of the header
 pub is_url_of : (t rest header : List ℕ) (u : DataUrl) → IsBytes (trimmed_text t)
     → IsSchemeAndRest (trimmed_text t) rest → IsHeaderAndTail rest header (url_tail u)
     → IsHeaderOf (header_text (without_tabs_and_newlines header)) (record_of (mime_of u)) (is_base64 u) → IsUrlOf t u
@@ -330,7 +279,7 @@ is_url_of t rest header u b s h k =
     let a = is_accepted t rest header (url_tail u) (rest_bytes t rest b s) s h in
     record {
       header = header_text (without_tabs_and_newlines header);
-      header_is = a.header_is;
+      header_is = a.stages.header_is;
       record_is = k.record_is.is_record;
       wellformed = k.record_is.wellformed;
       base64_is = k.base64_is;
@@ -368,31 +317,23 @@ tail_after t a tail h e =
     let rest : a ≡ drop 5 x = grind arith in
     let no = lacks_comma (take 5 x) (ap (after 44) spelled ∙ scheme_lacks) in (
       rest,
-      cc (
-        after-append 44 (take 5 x) (drop 5 x) no,
-        take-append-drop 5 x,
-        after_dropped 44 refl (trimmed_text t) tail e,
-      ),
+      cc (after-append 44 (take 5 x) (drop 5 x) no, take-append-drop 5 x, after_dropped 44 refl _ tail e),
     )
 
 -- the text of a URL has the tail of the URL
 url_parts : (t : List ℕ) (u : DataUrl) → ((i : ℕ) → get_or t i 0 < 256) → IsUrlOf t u → HasParts t (url_tail u)
 unfolding header_of staged_front front cleaned_text
 url_parts t u b h = elim (none_or_some (after_scheme t)) [
-  | inl e ↦ absurd (let k = h.header_is in cc)
+  | inl e ↦ absurd (cc (h.header_is))
   | inr (a, e) ↦
       let k = tail_after t a (url_tail u) e h.tail_is in
       let bytes = subst IsBytes (sym k.0) (bytes_drop 5 _ (bytes_dropped (trimmed_text t) (bytes_trimmed t b))) in
       let cut = is_cut 44 a (without_tabs_and_newlines (url_tail u)) k.1 in
       elim (none_or_some (after 44 (front a))) [
-        | inl n ↦ absurd (let m = no_header t a e bytes n in let k = h.header_is in cc)
-        | inr (x, y) ↦ record {
-          rest = a;
-          header = before 44 a;
-          rest_is = e;
-          bytes = bytes;
-          parts = record { joined = cut.joined; no_comma = cut.lacks; no_fragment = comma_first a x y };
-        }
+        | inl n ↦ absurd (cc (no_header t a e bytes n, h.header_is))
+        | inr (x, y) ↦
+            let first = comma_first a x y in
+            record { rest = a; header = before 44 a; rest_is = e; bytes = bytes; parts = search (arith, cut, first) }
       ]
 ]
 
@@ -400,10 +341,7 @@ url_parts t u b h = elim (none_or_some (after_scheme t)) [
 pub body_of_url : (t : List ℕ) (u : DataUrl) → ((i : ℕ) → get_or t i 0 < 256) → IsUrlOf t u
     → option_map percent_decoding (encoded_body t) ≡ Some (plain_body (url_tail u))
 unfolding plain_body
-body_of_url t u b h =
-    let k = url_parts t u b h in
-    let s = has_stages k.rest_is k.bytes k.parts in
-    cc (s.body_is, s.decoded_is)
+body_of_url t u b h = let k = url_parts t u b h in let s = has_stages k.rest_is k.bytes k.parts in cc
 
 -- the fragment of the Standard is the fragment of the tail of the URL; if one is missing, so is the other
 pub fragment_of_url : (t : List ℕ) (u : DataUrl) → ((i : ℕ) → get_or t i 0 < 256) → IsUrlOf t u

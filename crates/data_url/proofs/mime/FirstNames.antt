@@ -1,41 +1,28 @@
 -- Which parameters are kept: the first of each name. For `kept.rt`, and that a record is well formed.
-use Rattle.std.proofs.Common.{◌≡◌, ℕ, List, String, ap, length, map, min, sym, take, ◌∙◌, ◌<◌, ◌||◌, ◌&&◌, Bool, true}
+use Rattle.std.proofs.Common.{drop-cons, add-one, ◌+◌, append_assoc, append-nil, arith, ◌≤◌, not, string_bytes, ◌⊎◌}
 use Rattle.std.proofs.Common.{false, cond, [], ◌∷◌, ◌++◌, get_or, drop, Option, None, Some, refl, ap₂, subst, Global}
-use Rattle.std.proofs.Common.{drop-cons, add-one, ◌+◌, append_assoc, append-nil, arith, inl, inr, ◌≤◌, not}
-use Rattle.std.proofs.Common.{string_bytes, ◌⊎◌}
-use Rattle.std.proofs.lemmas.List.{length-map, take-map, take_min, get_or-take, length-take, map-append, drop-append-le}
-use Rattle.std.proofs.lemmas.List.{length-append, take-append-drop}
+use Rattle.std.proofs.Common.{get_or-take, length-take, length-append, take-append-drop, Decides}
+use Rattle.std.proofs.Common.{◌≡◌, ℕ, List, String, ap, length, map, min, sym, take, ◌∙◌, ◌<◌, ◌||◌, ◌&&◌, Bool, true}
+use Rattle.std.{proofs.Math.ListN.{drop_of_length-le}, proofs.lemmas.Map.Text.{btree_set_updates_text}}
+use Rattle.std.proofs.lemmas.Bool.{cond-true, not-false, not-true, agree_below_at, and_from, and_parts, cases_lt}
+use Rattle.std.{proofs.lemmas.Bool.{cond_both, false_from_ne_true}, proofs.lemmas.Bool.Decides.{same_from_decides}}
+use Rattle.std.proofs.lemmas.List.Folds.{list_all-append, list_all-map, list_all_at, list_any-append}
+use Rattle.std.proofs.lemmas.List.{length-map, take-map, take_min, map-append, drop-append-le}
+use Rattle.std.{proofs.lemmas.Slice.Eq.{bytes_eq-Decides}, specs.List.{list_all}, specs.Ordering.{nat_cmp}}
+use Rattle.std.proofs.lemmas.Str.Ascii.{IsAscii-map, lowercase-lowercase, lowercase_ascii, lowercase_is}
+use Rattle.std.{proofs.lemmas.Str.{chars-IsAscii, chars-nil, IsUtf8-string_bytes}, specs.Char.{to_ascii_lowercase}}
+use Rattle.std.specs.BTreeSet.{BTreeSet, UpdatesBy, contains, contains_text}
+use Rattle.std.{specs.Cmp.Lexicographic.{slice_cmp}, specs.Str.{IsUtf8, bytes_eq, chars}, specs.String.{string_cmp}}
+use Rattle.data_url.specs.{CodePoints.{is_quotable, is_token}, declared.mime.kept.TheConstants.{LOOKED_THROUGH}}
+use Rattle.data_url.specs.{Mime.{Parses, Record, has_distinct_names, IsRecordOfParts}, MimeType.{pair_of, code_points}}
 use Rattle.data_url.specs.Mime.{has_name, BeginsParameters, Item, Items, Pair, first_of_each_name, is_lowercase_name}
 use Rattle.data_url.specs.Mime.{is_token_text, kept_pairs, valid_of, valid_pairs, HasNoRecord, IsHead, IsWellformed}
-use Rattle.data_url.specs.Mime.{Parses, Record, has_distinct_names, IsRecordOfParts}
-use Rattle.data_url.specs.MimeType.{pair_of, code_points}
 use Rattle.data_url.specs.Steps.Kept.{first_of, pairs_of, HasLaterNames, IsIndexed}
-use Rattle.data_url.specs.declared.mime.kept.KeptParameters.{KeptParameters}
-use Rattle.data_url.specs.declared.mime.kept.TheConstants.{LOOKED_THROUGH}
-use Rattle.std.proofs.lemmas.Bool.{cond-true, not-false, not-true, agree_below_at, and_from, and_parts, cases_lt}
-use Rattle.std.proofs.lemmas.Bool.{cond_both, false_from_ne_true}
-use Rattle.std.proofs.lemmas.List.Folds.{list_all-append, list_all-map, list_all_at, list_any-append}
-use Rattle.std.proofs.lemmas.Slice.Eq.{bytes_eq-Decides}
-use Rattle.std.proofs.lemmas.Str.{chars-IsAscii, chars-nil, IsUtf8-string_bytes}
-use Rattle.std.proofs.lemmas.Str.Ascii.{IsAscii-map, lowercase-lowercase, lowercase_ascii, lowercase_is}
-use Rattle.std.proofs.lemmas.Bool.Decides.{same_from_decides}
-use Rattle.std.specs.Prelude.{Decides}
-use Rattle.std.specs.Char.{to_ascii_lowercase}
-use Rattle.std.specs.List.{list_all}
-use Rattle.std.specs.Str.{IsUtf8, bytes_eq, chars}
-use Rattle.data_url.specs.CodePoints.{is_quotable, is_token}
 use Rattle.data_url.specs.Steps.Parsing.{HasLowercaseNames, added_pairs, after_mark, item_in, pair_if, reading_in}
-use Rattle.data_url.specs.Steps.Parsing.{unless_named, HasNoHead}
-use Rattle.data_url.proofs.mime.Parsing.{mark_is}
-use Rattle.data_url.proofs.mime.TokenTexts.{bytes_of_ascii, token_text_ascii, token_text_chars}
-use Rattle.std.proofs.lemmas.Map.Text.{btree_set_updates_text}
-use Rattle.std.proofs.Math.ListN.{drop_of_length-le}
-use Rattle.std.specs.BTreeSet.{BTreeSet, UpdatesBy, contains, contains_text}
-use Rattle.std.specs.Cmp.Lexicographic.{slice_cmp}
-use Rattle.std.specs.Ordering.{nat_cmp}
-use Rattle.std.specs.String.{string_cmp}
+use Rattle.data_url.specs.{Steps.Parsing.{unless_named, HasNoHead}, declared.mime.kept.KeptParameters.{KeptParameters}}
 use Rattle.data_url.proofs.mime.Items.{has_items, has_parameter, items_are, items_in, rest_shorter}
-use Rattle.data_url.proofs.texts.CodePoints.{no_chars}
+use Rattle.data_url.proofs.{mime.Parsing.{mark_is}, texts.CodePoints.{no_chars}}
+use Rattle.data_url.proofs.mime.TokenTexts.{bytes_of_ascii, token_text_ascii, token_text_chars}
 
 -- the pairs that are searched one by one are the first ones
 pub among_first : (n : List ℕ) (items : List (String _ × String _)) (kept : KeptParameters) (k : ℕ)
@@ -50,10 +37,9 @@ test_from_different a c n = grind (arith, false_from_ne_true, bytes_eq-Decides)
 -- a code point in lower case is a token code point exactly if the code point is
 token_lower : (c : ℕ) → is_token (to_ascii_lowercase c) ≡ is_token c
 unfolding is_token
-token_lower c = elim (cases_lt c 128) [
-  | inl l ↦ agree_below_at (λ x. is_token (to_ascii_lowercase x)) is_token 128 c refl l
-  | inr l ↦ ap is_token ((lowercase_is c).2 (omega arith))
-]
+token_lower c =
+    let below = agree_below_at (λ x. is_token (to_ascii_lowercase x)) is_token 128 c refl in
+    grind (arith, cases_lt c 128, lowercase_is)
 
 -- a text in lower case has only token code points exactly if the text has
 all_token_lower : (t : List ℕ) → list_all is_token (map to_ascii_lowercase t) ≡ list_all is_token t
@@ -79,14 +65,16 @@ pub lower_chars : (bs : List ℕ) → IsUtf8 bs → is_token_text (chars bs) ≡
     → chars (map to_ascii_lowercase bs) ≡ map to_ascii_lowercase (chars bs)
 lower_chars bs u h =
     let a = token_text_ascii bs (token_text_chars bs u ∙ h) in
-    cc (
-      chars-IsAscii (map to_ascii_lowercase bs) (IsAscii-map to_ascii_lowercase bs lowercase_ascii a),
-      chars-IsAscii bs a,
-    )
+    grind (arith, chars-IsAscii, IsAscii-map to_ascii_lowercase bs lowercase_ascii a)
 
 -- a lower-case name in lower case is the name itself
 pub lower_is_itself : (t : List ℕ) → is_lowercase_name t ≡ true → map to_ascii_lowercase t ≡ t
 lower_is_itself t h = grind (arith, bytes_eq-Decides)
+
+-- a name in lower case is its bytes
+pub lowercase_bytes : {A : Type 0} (name : String A) → is_lowercase_name (code_points name) ≡ true
+    → string_bytes name ≡ code_points name
+lowercase_bytes name h = grind (arith, IsUtf8-string_bytes, bytes_of_ascii, token_text_ascii)
 
 -- a token text has at least one byte
 pub some_byte : (n : List ℕ) → is_token_text (chars n) ≡ true → 0 < length n
@@ -101,19 +89,17 @@ module _ {kept : KeptParameters} {all : List (String Global × String Global)} (
   key_is =
       let h : is_lowercase_name (code_points item.0) ≡ true =
       grind (arith, list_all_at, list_all-map, get_or-take, length-take) in
-      grind (arith, lower_is_itself, bytes_of_ascii, token_text_ascii, IsUtf8-string_bytes)
+      grind (arith, lower_is_itself, lowercase_bytes)
 
   -- one of the pairs from there on has a token text in lower case if the key is this text, or a later one has it
-  pub key_next : (n : List ℕ) (r : Bool) → IsUtf8 n → is_token_text (chars n) ≡ true
-      → Decides r (map to_ascii_lowercase key ≡ map to_ascii_lowercase n)
-      → has_name (map to_ascii_lowercase (chars n)) (map (λ p. pair_of p) (drop i (take k all)))
-      ≡ (r || has_name (map to_ascii_lowercase (chars n)) (map (λ p. pair_of p) (drop (i + 1) (take k all))))
+  pub key_next : (n : List ℕ) (r : Bool) → IsUtf8 n → is_token_text (chars n) ≡ true → Decides r (map to_ascii_lowercase
+      key ≡ map to_ascii_lowercase n) → has_name (map to_ascii_lowercase (chars n)) (map (λ p. pair_of p) (drop i (take
+      k all))) ≡ (r || has_name (map to_ascii_lowercase (chars n)) (map (λ p. pair_of p) (drop (i + 1) (take k all))))
   key_next n r u t d =
       grind (arith, bytes_of_ascii, token_text_ascii, drop-cons, key_is, add-one, same_from_decides, bytes_eq-Decides)
 
 -- one of the pairs has a name after p is pushed exactly if one had it before, or p has it
-has_pushed : (n : List ℕ) (xs : List Pair) (p : Pair)
-    → has_name n (xs ++ (p ∷ [])) ≡ (has_name n xs || bytes_eq p.0 n)
+has_pushed : (n : List ℕ) (xs : List Pair) (p : Pair) → has_name n (xs ++ (p ∷ [])) ≡ (has_name n xs || bytes_eq p.0 n)
 has_pushed n xs p = grind (arith, list_any-append {X = Pair})
 
 -- the first pairs of each name depend on the names of the earlier pairs alone
@@ -122,16 +108,11 @@ first_same : (e e' ps : List Pair) → ((n : List ℕ) → has_name n e ≡ has_
 first_same e e' [] h = refl
 first_same e e' (q ∷ ps) h = grind (arith, has_pushed, first_same (e ++ (q ∷ [])) (e' ++ (q ∷ [])) ps)
 
--- and they have the same names with q pushed
-known_pushed : (n : List ℕ) (e : List Pair) (q : Pair) → has_name q.0 e ≡ true
-    → has_name n (e ++ (q ∷ [])) ≡ has_name n e
-known_pushed n e q h = grind (arith, has_pushed, bytes_eq-Decides)
-
 -- after the pairs that an item adds come the first pairs of each name that are left
 first_step : (pairs : List Pair) (item : Item) (ps : List Pair) → first_of_each_name pairs (valid_of item ++ ps)
     ≡ added_pairs pairs item ++ first_of_each_name (pairs ++ added_pairs pairs item) ps
 first_step pairs (name, None) ps = rw (append-nil pairs) refl
-first_step pairs (name, Some v) ps = grind (arith, first_same, known_pushed, append-nil)
+first_step pairs (name, Some v) ps = grind (arith, first_same, has_pushed, bytes_eq-Decides, append-nil)
 
 -- one of the pairs has a name exactly if one of the first pairs or one of the later pairs has it
 first_or_later : (n : List ℕ) (pairs : List Pair)
@@ -172,15 +153,11 @@ keeps_more {whole} {rest} {s} {pairs = pairs} k e p r a =
     let more = items_are (length s) next (items_in (length next) next) (rest_shorter s) (has_items next begins) in
     let left = valid_pairs (items_in (length s) next) in
     let added = added_pairs pairs (item_in s) in
+    let all = first_of_each_name (pairs ++ added) left in
     let before = (subst (λ x. KeepsOn whole x pairs) (mark_is 59 rest s e) k).kept in
     rw r (record {
       begins = begins;
-      kept = cc (
-        before,
-        more,
-        first_step pairs (item_in s) left,
-        append_assoc pairs added (first_of_each_name (pairs ++ added) left),
-      );
+      kept = cc (first_step pairs (item_in s) left, append_assoc pairs added all);
     })
 
 -- if the rest does not begin with ';', the pairs are those that are kept of the items of the whole text
@@ -188,11 +165,6 @@ pub keeps_end : {whole rest : List ℕ} {pairs : List Pair} → KeepsOn whole re
     → after_mark 59 rest ≡ None → (items : List Item) × Items whole items × (pairs ≡ kept_pairs items)
 keeps_end {whole} {rest = []} {pairs = pairs} k w e = grind (arith, items_in, has_items, append-nil)
 keeps_end {rest = c ∷ rest} k w e = grind arith
-
--- a name in lower case is its bytes
-pub lowercase_bytes : {A : Type 0} (name : String A) → is_lowercase_name (code_points name) ≡ true
-    → string_bytes name ≡ code_points name
-lowercase_bytes name h = grind (arith, IsUtf8-string_bytes, bytes_of_ascii, token_text_ascii)
 
 -- if there are no more than `LOOKED_THROUGH` pairs, none of the later pairs has a name
 pub few_names : (n : List ℕ) (pairs : List Pair) → length pairs ≤ LOOKED_THROUGH
@@ -205,14 +177,10 @@ pub later_names : {A : Type 0} (later later' : BTreeSet (String A)) (pairs : Lis
     → UpdatesBy string_cmp (λ k. slice_cmp nat_cmp (string_bytes name) (string_bytes k)) later later' true
     → HasLaterNames later' (pairs ++ (p ∷ []))
 later_names later later' pairs p name l h e u n =
+    let updated = btree_set_updates_text (string_bytes name) later later' true u n in
     let choice : cond (bytes_eq (string_bytes name) n) true (contains_text later n)
     ≡ (contains_text later n || bytes_eq (string_bytes name) n) = grind arith in
-    cc (
-      btree_set_updates_text (string_bytes name) later later' true u n,
-      h n,
-      has_pushed n (drop LOOKED_THROUGH pairs) p,
-      drop-append-le LOOKED_THROUGH pairs (p ∷ []) l,
-    )
+    cc (h n, has_pushed n (drop LOOKED_THROUGH pairs) p, drop-append-le LOOKED_THROUGH pairs (p ∷ []) l)
 
 module _ {old : KeptParameters} (name value : String Global) (x : IsIndexed old)
     (lower : is_lowercase_name (code_points name) ≡ true) (new : has_name (code_points name) (first_of
@@ -240,10 +208,7 @@ module _ {old : KeptParameters} (name value : String Global) (x : IsIndexed old)
         (added : b ≡ not (contains string_cmp old.later_names copy)) where
       -- the set has the name exactly if one of the pairs has it
       set_knows : b ≡ not (has_name (code_points name) (pairs_of old))
-      set_knows =
-          let known = first_or_later (code_points name) (pairs_of old) in
-          let later = x.later (string_bytes copy) in
-          grind (arith, lowercase_bytes name lower)
+      set_knows = grind (arith, lowercase_bytes name lower, first_or_later, x.later (string_bytes copy))
 
       -- if the set has the name, the pair is not added
       pub not_pushed : b ≡ false → pairs_of old ≡ pairs_of old ++ unless_named (pairs_of old) (pair_of
@@ -251,11 +216,10 @@ module _ {old : KeptParameters} (name value : String Global) (x : IsIndexed old)
       not_pushed f = none_added old.pairs.items _ (cond-true _ _ _ (not-false _ (sym set_knows ∙ f)))
 
       -- if its name is put into the set, the pair is added
-      pub pushed_later : (kept : KeptParameters) → b ≡ true → LOOKED_THROUGH ≤ length old.pairs.items
-          → kept.pairs.items ≡ old.pairs.items ++ ((name, value) ∷ [])
-          → UpdatesBy string_cmp (λ k. slice_cmp nat_cmp (string_bytes copy)
-          (string_bytes k)) old.later_names kept.later_names true
-          → (pairs_of kept ≡ pairs_of old ++ unless_named (pairs_of old) (pair_of (name, value) ∷ [])) × IsIndexed kept
+      pub pushed_later : (kept : KeptParameters) → b ≡ true → LOOKED_THROUGH ≤ length old.pairs.items → kept.pairs.items
+          ≡ old.pairs.items ++ ((name, value) ∷ []) → UpdatesBy string_cmp (λ k. slice_cmp nat_cmp (string_bytes copy)
+          (string_bytes k)) old.later_names kept.later_names true → (pairs_of kept ≡ pairs_of old ++ unless_named
+          (pairs_of old) (pair_of (name, value) ∷ [])) × IsIndexed kept
       pushed_later kept t l e u =
           let len = length-map old.pairs.items (λ q. pair_of q) in
           pushes kept (not-true _ (sym set_knows ∙ t)) e (later_names old.later_names kept.later_names (pairs_of old)
@@ -287,9 +251,9 @@ first_distinct : (e ps : List Pair) → has_distinct_names (first_of_each_name e
 first_distinct e [] = refl
 first_distinct e (q ∷ ps) = grind (arith, none_again, has_pushed, bytes_eq-Decides, first_distinct (e ++ (q ∷ [])) ps)
 
--- each record that a text parses to is well-formed
-pub parses_wellformed : (s : List ℕ) (m : Record) → Parses s m → IsWellformed m
-parses_wellformed s m h = grind (arith, lowercase_name, first_all, all_lower, first_distinct, all_quotable)
+-- a record of the parts of a head is well-formed
+pub head_wellformed : {s a b c : List ℕ} {m : Record} → IsHead s a b c → IsRecordOfParts a b c m → IsWellformed m
+head_wellformed h p = grind (arith, lowercase_name, first_all, all_lower, first_distinct, all_quotable)
 
 -- a text that has a head parses to the record of the parts of that head
 pub parses_parts : (s a b c : List ℕ) (m : Record) → IsHead s a b c → IsRecordOfParts a b c m → Parses s m
@@ -305,6 +269,9 @@ has_record s a b c h n =
 -- a text that has no head has no record
 pub no_record : (s : List ℕ) → HasNoHead s → HasNoRecord s
 no_record s n m h = n h.type_ h.subtype h.parameters h.head
+
+-- the lemmas for `Mime::from_str`
+pub ruleset records = (has_record, parses_parts)
 
 -- the lemmas for `read_parameters`
 pub ruleset parameters = (rest_shorter, mark_is, no_chars, keeps_end)

@@ -1,19 +1,16 @@
 -- A text has one list of items, and at most one record.
-use Rattle.std.proofs.Common.{◌≡◌, ℕ, zero, suc, ◌≤◌, ◌==◌, Bool, false, cond, List, [], ◌∷◌, ◌++◌, Option, true, None}
 use Rattle.std.proofs.Common.{Some, length, refl, sym, ap, ◌∙◌, subst, append_assoc, append-nil, arith, drop, take}
-use Rattle.std.proofs.Common.{one-add, ◌+◌, length-append, eqb-true, take-append-drop}
-use Rattle.std.proofs.lemmas.Bool.{not-false}
+use Rattle.std.{proofs.Common.{one-add, ◌+◌, length-append, eqb-true, take-append-drop}, proofs.lemmas.Bool.{not-false}}
+use Rattle.std.proofs.Common.{◌≡◌, ℕ, zero, suc, ◌≤◌, ◌==◌, Bool, false, cond, List, [], ◌∷◌, ◌++◌, Option, true, None}
 use Rattle.std.specs.List.{prefix_len}
-use Rattle.data_url.specs.CodePoints.{is_http_whitespace, is_token}
+use Rattle.data_url.specs.{CodePoints.{is_http_whitespace, is_token}, Facts.{HasOneItemList, HasAtMostOneRecord}}
 use Rattle.data_url.specs.Mime.{BeginsParameters, DoesNotBegin, Every, GivesValue, IsParameter, Item, Items, is_quote}
-use Rattle.data_url.specs.Mime.{lone_equals, nothing, plain, quoted, unclosed, unless_empty, IsHead, Record}
-use Rattle.data_url.specs.Url.{without_end, without_front}
-use Rattle.data_url.specs.Facts.{HasOneItemList, HasAtMostOneRecord}
+use Rattle.data_url.specs.Mime.{lone_equals, nothing, plain, quoted, unclosed, unless_empty, IsHead}
 use Rattle.data_url.specs.Steps.Parsing.{Reading, after_mark, front_of, given_reading, in_name, in_value, item_in}
 use Rattle.data_url.specs.Steps.Parsing.{named, plain_reading, quoted_reading, reading, reading_from, reading_in}
-use Rattle.data_url.proofs.texts.CodePoints.{after_begins, front_is, front_passes}
+use Rattle.data_url.specs.Url.{without_end, without_front}
 use Rattle.data_url.proofs.mime.TokenTexts.{IsRead, closed_reading, is_closed, is_open, is_read, open_reading}
-use Rattle.data_url.proofs.mime.TokenTexts.{every_token}
+use Rattle.data_url.proofs.{mime.TokenTexts.{every_token}, texts.CodePoints.{after_begins, front_is, front_passes}}
 
 -- if ';' does not pass, a text that is empty or begins with ';' does not begin with a code point that passes
 pub ends_of_rest : (p : ℕ → Bool) → p 59 ≡ false → (rest : List ℕ) → BeginsParameters rest → DoesNotBegin p rest
@@ -52,12 +49,7 @@ reading_is _ _ _ (nothing {rest = c ∷ rest}) b = grind arith
 reading_is _ _ _ lone_equals b = refl
 reading_is _ _ _ (plain {rest} text e d) b = plain_is text rest e d b
 reading_is _ _ _ (quoted {value} {rest} text junk h e) b =
-    grind (
-      arith,
-      append_assoc text (34 ∷ junk) rest,
-      closed_reading text value (junk ++ rest) h,
-      front_is in_value junk rest e (ends_of_rest in_value refl rest b),
-    )
+    grind (arith, append_assoc, closed_reading, front_is in_value junk rest e (ends_of_rest in_value refl rest b))
 reading_is _ _ _ (unclosed {value} text h) b = rw (append-nil text) (open_reading text value h)
 
 -- the value that is read is given by a text, which the rest follows
@@ -92,12 +84,10 @@ not_begins_front p q (c ∷ s) h = elim (q c) as (λ v. DoesNotBegin p (take (co
 
 -- if a text does not begin with '"', '=' and the text give the value that is read without quotes
 is_plain_reading : (s : List ℕ) → DoesNotBegin is_quote s → IsReading (61 ∷ s) (plain_reading s)
-is_plain_reading s h = record {
-  tail = 61 ∷ front_of in_value s;
-  joined = ap (λ x. 61 ∷ x) (sym (take-append-drop (prefix_len in_value s) s));
-  gives = plain (front_of in_value s) (front_passes in_value s) (not_begins_front is_quote in_value s h);
-  begins = begins_from (without_front in_value s) (after_begins in_value s);
-}
+is_plain_reading s h =
+    let gives = plain (front_of in_value s) (front_passes in_value s) (not_begins_front is_quote in_value s h) in
+    let begins = begins_from (without_front in_value s) (after_begins in_value s) in
+    record { tail = 61 ∷ front_of in_value s; joined = grind (arith, take-append-drop); gives = gives; begins = begins }
 
 -- '=' and any text give the value that is read from the text
 is_given_reading : (s : List ℕ) → IsReading (61 ∷ s) (given_reading s)
@@ -134,13 +124,7 @@ has_parameter s =
     let name = front_of in_name x in
     record {
       text = 59 ∷ (gap ++ (name ++ i.tail));
-      joined = cc (
-        take-append-drop (prefix_len is_http_whitespace s) s,
-        take-append-drop (prefix_len in_name x) x,
-        append_assoc gap (name ++ i.tail) (reading_in s).rest,
-        append_assoc name i.tail (reading_in s).rest,
-        i.joined,
-      );
+      joined = grind (arith, take-append-drop, append_assoc, i.joined);
       is_parameter = record {
         gap = gap;
         name = name;
@@ -169,8 +153,7 @@ parameter_is : (s text rest : List ℕ) (item : Item) → IsParameter text rest 
     → BeginsParameters rest → (item_in s ≡ item) × ((reading_in s).rest ≡ rest)
 parameter_is s text rest item h e b =
     let more = h.tail ++ rest in
-    let is : s ≡ h.gap ++ (h.name ++ more) =
-    cc (h.joined, append_assoc h.gap (h.name ++ h.tail) rest, append_assoc h.name h.tail rest) in
+    let is : s ≡ h.gap ++ (h.name ++ more) = grind (arith, append_assoc, h.joined) in
     let ends = ends_of_tail is_http_whitespace refl refl h.tail rest item.1 h.value_is b in
     let x = front_is is_http_whitespace h.gap (h.name ++ more) h.in_gap
     (not_begins_append is_http_whitespace h.name more h.begins ends) in
@@ -215,8 +198,7 @@ items_are zero (c ∷ s) (item ∷ items) l h = absurd (omega arith)
 items_are (suc n) (c ∷ s) (item ∷ items) l h =
     let e : 59 ∷ s ≡ h.0 ++ h.1 = cc (h.2, h.3.joined) in
     let p = parameter_is s h.0 h.1 item h.3 e (begins_of_items h.1 items h.4) in
-    let shorter : length h.1 ≤ n = omega (arith, ap length e, ap length h.3.joined, length-append h.0 h.1) in
-    grind (arith, items_are n h.1 items shorter h.4)
+    grind (arith, items_are n h.1 items (omega (arith, ap length e, ap length h.3.joined, length-append h.0 h.1)) h.4)
 
 -- the items of a text that is empty or begins with ';'
 pub has_items : (r : List ℕ) → BeginsParameters r → Items r (items_in (length r) r)
@@ -270,16 +252,11 @@ has_parts s a b c h =
     let third = front_is is_http_whitespace h.gap c h.in_gap (ends_of_rest is_http_whitespace refl c h.begins) in
     rw (h.joined) (grind arith)
 
--- two records with equal types, equal subtypes and equal parameters are equal
-record_equal : (m n : Record) → m.type_ ≡ n.type_ → m.subtype ≡ n.subtype → m.parameters ≡ n.parameters → m ≡ n
-record_equal m n t s p = grind arith
-
 -- two records of the same text are equal
 pub has_at_most_one_record : (s : List ℕ) → HasAtMostOneRecord s
 has_at_most_one_record s m n h k =
     let p = has_parts s h.type_ h.subtype h.parameters h.head in
     let q = has_parts s k.type_ k.subtype k.parameters k.head in
-    let i = h.record_is.items in
-    let a = items_are (length h.parameters) h.parameters i (omega arith) h.record_is.items_are in
+    let a = items_are (length h.parameters) h.parameters h.record_is.items (omega arith) h.record_is.items_are in
     let b = items_are (length k.parameters) k.parameters k.record_is.items (omega arith) k.record_is.items_are in
-    record_equal m n (cc) (cc) (cc)
+    grind (arith, h.record_is, k.record_is)

@@ -1,32 +1,24 @@
 -- What the parser cuts: values of parameters, type, subtype and parameters. For `parse.rt`, `values.rt`, `cuts.rt`.
-use Rattle.std.proofs.Common.{◌≡◌, ℕ, zero, suc, ◌+◌, ◌-◌, ◌<◌, ◌==◌, Bool, true, false, not, List, [], ◌∷◌, ◌++◌}
 use Rattle.std.proofs.Common.{length, take, drop, encode_utf8_all, refl, sym, ap, ◌∙◌, append_assoc, append-nil, arith}
+use Rattle.std.proofs.Common.{take-append-drop, length-take-le, codes, subst, take-take, length-take}
+use Rattle.std.proofs.Common.{◌≡◌, ℕ, zero, suc, ◌+◌, ◌-◌, ◌<◌, ◌==◌, Bool, true, false, not, List, [], ◌∷◌, ◌++◌}
 use Rattle.std.proofs.Common.{◌≤◌, ◌||◌, ◌⊎◌, None, Some, cond, nat_le, encode_utf8, map, Option, eqb-true}
-use Rattle.std.proofs.Common.{take-append-drop, length-take-le, codes, subst}
-use Rattle.std.proofs.lemmas.List.{take-take, take_rest, length-take}
-use Rattle.std.proofs.lemmas.List.Folds.{list_all-append}
+use Rattle.std.{proofs.Math.Seq.{take-length}, proofs.lemmas.List.{take_rest}, specs.Str.Pattern.{HasCharAt}}
+use Rattle.std.proofs.lemmas.Bool.{agree_below_at, false≢true}
+use Rattle.std.{proofs.lemmas.List.Folds.{list_all-append}, proofs.lemmas.Str.{cons_from_encodes}}
 use Rattle.std.proofs.lemmas.List.Sums.{prefix_len-le-length, prefix_len_passes, suffix_len-le-length}
 use Rattle.std.proofs.lemmas.Str.{chars-append, chars-nil, chars_past_char, encodes-chars, IsUtf8-encode}
-use Rattle.std.proofs.lemmas.Str.{cons_from_encodes}
-use Rattle.std.proofs.Math.Seq.{take-length}
-use Rattle.std.proofs.lemmas.Bool.{agree_below_at, false≢true}
-use Rattle.std.specs.Char.{IsScalar, to_ascii_lowercase}
-use Rattle.std.specs.List.{list_all, prefix_len}
-use Rattle.std.specs.Str.{IsUtf8, chars}
-use lib.Utf8.{encode}
-use Rattle.data_url.specs.CodePoints.{is_http_whitespace, is_quotable, is_token}
+use Rattle.std.{specs.Char.{IsScalar, to_ascii_lowercase}, specs.List.{list_all, prefix_len}, specs.Str.{IsUtf8, chars}}
+use Rattle.data_url.specs.{CodePoints.{is_http_whitespace, is_quotable, is_token}, Url.{without_end, without_front}}
 use Rattle.data_url.specs.Mime.{Every, unless_empty, BeginsParameters, IsHead, is_token_text, valid_of, DoesNotEnd}
 use Rattle.data_url.specs.Steps.Parsing.{front_of, in_value, is_escaped, is_quotable_byte, is_unquoted_byte}
-use Rattle.data_url.specs.Steps.Parsing.{quotable_value, unescaped, HasNoHead, IsTokens, Reading, after_mark, in_name}
 use Rattle.data_url.specs.Steps.Parsing.{item_in, named, pair_if, reading, reading_in, IsTrimmedEnd}
-use Rattle.data_url.specs.Url.{without_end, without_front}
-use Rattle.data_url.proofs.texts.CodePoints.{IsCutInto, IsSteady, cut_front, front_further, front_passes, no_chars}
-use Rattle.data_url.proofs.texts.CodePoints.{same_empty, trimmed_end_is, cut_by}
+use Rattle.data_url.specs.Steps.Parsing.{quotable_value, unescaped, HasNoHead, IsTokens, Reading, after_mark, in_name}
+use Rattle.data_url.proofs.{examples.Literals.{on_literals}, texts.CodePoints.{same_empty, trimmed_end_is, cut_by}}
+use Rattle.data_url.proofs.{mime.Items.{after_slash, has_parts, trimmed_of}, runs.Runs.{match_map}}
 use Rattle.data_url.proofs.mime.TokenTexts.{values_steady, whole_front, spaces_end, spaces_steady, names_steady}
-use Rattle.std.specs.Str.Pattern.{HasCharAt}
-use Rattle.data_url.proofs.mime.Items.{after_slash, has_parts, trimmed_of}
-use Rattle.data_url.proofs.runs.Runs.{match_map}
-use Rattle.data_url.proofs.examples.Literals.{on_literals}
+use Rattle.data_url.proofs.texts.CodePoints.{IsCutInto, IsSteady, cut_front, front_further, front_passes, no_chars}
+use lib.Utf8.{encode}
 
 -- a byte of the UTF-8 of quoted-string code points is below 196
 quotable_byte_below : (b : ℕ) → is_quotable_byte b ≡ true → b < 196
@@ -69,8 +61,7 @@ value_if (c ∷ v) = grind arith
 module _ {text bytes : List ℕ} {q more : ℕ} (u : IsUtf8 text) (e : bytes ≡ text)
     (f : q ≡ prefix_len is_unquoted_byte bytes) (g : more ≡ prefix_len in_value (take (length bytes - q)
     (drop q bytes))) where
-  -- the longest prefix without ';' is the longest one of unquoted bytes, and then the longest one without ';' of the
-  -- rest
+  -- the longest prefix without ';' is the longest one of unquoted bytes, and then that without ';' of the rest
   front_len : q + more ≡ prefix_len in_value text
   front_len = grind (arith, take_rest, front_further, prefix_len-le-length, prefix_len_passes)
 
@@ -85,14 +76,7 @@ module _ {text bytes : List ℕ} {q more : ℕ} (u : IsUtf8 text) (e : bytes ≡
     quotable_if : list_all is_quotable (chars t) ≡ nat_le (length t) q
     quotable_if =
         let n = front_len in
-        let few : length t ≤ q + more = omega (
-          arith,
-          ap length k,
-          ap length h,
-          length-take
-              (length t) front,
-          length-take (q + more) text,
-        ) in
+        let few : length t ≤ q + more = grind (arith, length-take) in
         let t_is : t ≡ take (length t) text = cc (take-take (length t) (q + more) text few) in
         cc (quotable_chars t w, quotable_front text (length t) (omega arith))
 
@@ -122,8 +106,7 @@ unescaped_quotable false (c ∷ s) = grind (arith, unescaped_quotable false s, u
 -- the value of a quoted string is quotable exactly if the longest prefix of quotable bytes is the whole text
 pub quotable_by : (bs : List ℕ) → IsUtf8 bs
     → list_all is_quotable (unescaped false (chars bs)) ≡ (prefix_len is_quotable_byte bs == length bs)
-quotable_by bs u =
-    cc (unescaped_quotable false (chars bs), quotable_chars bs u, whole_front is_quotable_byte bs)
+quotable_by bs u = cc (unescaped_quotable false (chars bs), quotable_chars bs u, whole_front is_quotable_byte bs)
 
 -- if a class is steady, and each byte of a UTF-8 text passes, so does each of its code points
 pub whole_passes : (p : ℕ → Bool) → IsSteady p → (bs bytes : List ℕ) (n : ℕ) → IsUtf8 bs → bytes ≡ bs
@@ -147,8 +130,7 @@ copied v q bytes n u e f g h = grind (arith, whole_passes, unescaped_steady, sta
 -- the encoding of a Unicode scalar value, after a UTF-8 text, adds its code point to those of the text
 chars_push : (v : List ℕ) (c : ℕ) → IsUtf8 v → IsScalar c → chars (v ++ encode c) ≡ chars v ++ (c ∷ [])
 chars_push v c u s =
-    let one = chars_past_char (encode c) [] c (IsUtf8-encode c s) (sym (append-nil (encode c))) in
-    cc (chars-append v (encode c) u, one, chars-nil)
+    grind (arith, chars_past_char (encode c) [] c (IsUtf8-encode c s), append-nil, chars-append, chars-nil)
 
 -- if nothing is written, the value of the whole text is left
 pub unescape_starts : (v r q : List ℕ) → v ≡ [] → r ≡ q
@@ -167,9 +149,8 @@ module _ (r r' v : List ℕ) {c : ℕ} {e : Bool} {whole : List ℕ} (u : IsUtf8
   unescape_pushes v' w g k = grind (arith, chars_past_char, cons_from_encodes, chars_push, append_assoc)
 
 -- if nothing is left, a '\' that would escape the next code point is a part of the value
-pub unescape_ends : (r v : List ℕ) {e : Bool} {whole : List ℕ} → length r ≡ 0
-    → chars v ++ unescaped e (chars r) ≡ whole → (e ≡ false → chars v ≡ whole)
-    × ((v' : List ℕ) → IsUtf8 v → e ≡ true → v' ≡ v ++ encode 92 → chars v' ≡ whole)
+pub unescape_ends : (r v : List ℕ) {e : Bool} {whole : List ℕ} → length r ≡ 0 → chars v ++ unescaped e (chars r) ≡ whole
+    → (e ≡ false → chars v ≡ whole) × ((v' : List ℕ) → IsUtf8 v → e ≡ true → v' ≡ v ++ encode 92 → chars v' ≡ whole)
 unescape_ends r v l h = grind (arith, append-nil, no_chars, chars_push)
 
 -- the lemmas for `read_plain`
@@ -184,10 +165,7 @@ has_mark bs rest c n u h e = grind (arith, chars_past_char bs (drop n bs) c u h.
 pub no_mark : (cs : List ℕ) (c : ℕ) → ((rest : List ℕ) → encode_utf8_all cs ≡ encode_utf8 c ++ rest → ⊥)
     → after_mark c cs ≡ None
 no_mark [] c n = refl
-no_mark (b ∷ cs) c n = elim (b == c) as (λ v. (b == c) ≡ v → cond v (Some cs) None ≡ None) [
-  | true ↦ λ e. absurd (n (encode_utf8_all cs) (ap (λ x. encode_utf8 x ++ encode_utf8_all cs) (eqb-true b c e)))
-  | false ↦ λ e. refl
-] refl
+no_mark (b ∷ cs) c n = grind (arith, eqb-true, n (encode_utf8_all cs))
 
 -- if a text is not empty and does not begin with ';', it does not begin parameters
 not_begins : (s : List ℕ) → after_mark 59 s ≡ None → (length s == 0) ≡ false → BeginsParameters s → ⊥
@@ -247,16 +225,7 @@ module _ {s t a x : List ℕ} (first : IsTokens t a x) (e : t ≡ trimmed_of is_
       pub is_head : BeginsParameters (chars bs) → IsHead s a b (chars bs)
       is_head begins = record {
         gap = front_of is_http_whitespace z;
-        joined = cc (
-          take-append-drop (prefix_len is_token t) t,
-          take-append-drop (prefix_len is_token y) y,
-          take-append-drop (prefix_len is_http_whitespace z) z,
-          mark_is 47 x y slash,
-          first.front,
-          first.after,
-          second.front,
-          second.after,
-        );
+        joined = grind (arith, take-append-drop, mark_is);
         is_type = first.token;
         is_subtype = second.token;
         in_gap = front_passes is_http_whitespace z;
@@ -264,18 +233,16 @@ module _ {s t a x : List ℕ} (first : IsTokens t a x) (e : t ≡ trimmed_of is_
       }
 
 -- the pair that is read
-pair_by : (s name : List ℕ) {r : Reading} (value : Option (List ℕ)) → r ≡ reading_in s
-    → name ≡ front_of in_name (named s) → value ≡ quotable_value r.value
-    → pair_if (map to_ascii_lowercase name) value ≡ valid_of (item_in s)
+pair_by : (s name : List ℕ) {r : Reading} (value : Option (List ℕ)) → r ≡ reading_in s → name ≡ front_of in_name
+    (named s) → value ≡ quotable_value r.value → pair_if (map to_ascii_lowercase name) value ≡ valid_of (item_in s)
 pair_by s name value e n v = grind arith
 
 -- the pair and the rest that are read from a text that is cut after a name
-pub parameter_by : (s : List ℕ) {t bytes front after : List ℕ} {n : ℕ} {o : Option (List ℕ)} → IsUtf8 t
-    → n ≡ prefix_len in_name bytes → bytes ≡ t → front ≡ take n t → after ≡ drop n t → chars t ≡ named s
-    → after_mark 61 (chars after) ≡ o → (value : Option (List ℕ))
-    → value ≡ quotable_value (reading (chars after) o).value
-    → (pair_if (map to_ascii_lowercase (chars front)) value ≡ valid_of (item_in s))
-    × ((reading (chars after) o).rest ≡ (reading_in s).rest)
+pub parameter_by : (s : List ℕ) {t bytes front after : List ℕ} {n : ℕ} {o : Option (List ℕ)} → IsUtf8 t → n
+    ≡ prefix_len in_name bytes → bytes ≡ t → front ≡ take n t → after ≡ drop n t → chars t ≡ named s
+    → after_mark 61 (chars after) ≡ o → (value : Option (List ℕ)) → value
+    ≡ quotable_value (reading (chars after) o).value → (pair_if (map to_ascii_lowercase (chars front)) value
+    ≡ valid_of (item_in s)) × ((reading (chars after) o).rest ≡ (reading_in s).rest)
 parameter_by s {front = front} {after = after} {o = o} u e f g h k m value v =
     let cut = cut_by names_steady u e f g h in
     let by : reading (chars after) o ≡ reading_in s = cc in
@@ -291,19 +258,14 @@ pub ends_after : (p : ℕ → _) (c : ℕ) (t : List ℕ) → p c ≡ false → 
 ends_after p c [] n h = n
 ends_after p c (d ∷ t) n h = h
 
--- if s is empty or begins with ';', "text/plain" ++ s has the type "text", the subtype "plain" and, as the text of its
--- parameters, s without HTTP whitespace at its end
+-- if s is empty or begins with ';', the parts of "text/plain" ++ s are "text", "plain" and s without its whitespace end
 pub plain_head_is : (s t : List ℕ) → BeginsParameters s → IsTrimmedEnd is_http_whitespace s t
     → IsHead (codes "text/plain" ++ s) (chars (codes "text")) (chars (codes "plain")) t
 unfolding on_literals chars
 plain_head_is s t b e = record {
   gap = [];
-  joined = sym (trimmed_end_is is_http_whitespace (codes "text/plain" ++ s) (codes "text/plain" ++ t) (record {
-    back = e.back;
-    joined = ap (λ x. codes "text/plain" ++ x) e.joined;
-    at_back = e.at_back;
-    ends = ends_after is_http_whitespace 110 t refl e.ends;
-  }));
+  joined = sym (trimmed_end_is is_http_whitespace (codes "text/plain" ++ s) (codes "text/plain" ++ t)
+      (search (arith, e, ends_after)));
   is_type = refl;
   is_subtype = refl;
   in_gap = tt;

@@ -1,45 +1,35 @@
 -- Printed records: `Display` and `PartialEq` of `Mime`, and that parsing a printed record returns the record.
-use Rattle.std.proofs.Common.{◌≡◌, ℕ, ◌+◌, ◌<◌, ◌≤◌, Bool, true, false, List, [], ◌∷◌, ◌++◌, length, get_or, drop}
+use Rattle.std.{proofs.Common.{Decides, IsTrue}, specs.List.{flat_map, AllZip, list_all}, specs.Str.{IsUtf8, chars}}
 use Rattle.std.proofs.Common.{String, string_bytes, map, encode_utf8, encode_utf8_all, refl, sym, subst, append_assoc}
-use Rattle.std.proofs.Common.{append-nil, drop-cons, drop_of_length-le, arith, ◌==◌, ◌||◌, ◌&&◌, not, Some, ap}
-use lib.Utf8.{encode}
-use Rattle.std.proofs.lemmas.Str.{IsUtf8-append, IsUtf8-string_bytes, chars_past_char, encode_ascii, encodes-append}
-use Rattle.std.proofs.lemmas.Str.{encodes-chars}
-use Rattle.std.specs.declared.fmt.Formatter.{Formatter}
-use Rattle.std.proofs.Output.{has_written_styled_append, has_written_styled_of_eq}
-use Rattle.std.specs.Fmt.{HasWrittenStyled}
-use Rattle.data_url.specs.Steps.Printing.{Adds, IsHeld, held}
-use Rattle.data_url.specs.declared.mime.line.Line.{Line}
-use Rattle.std.specs.List.{flat_map, AllZip, list_all}
-use Rattle.std.specs.Str.{IsUtf8, chars}
-use Rattle.data_url.specs.Mime.{Without, escaped_code_point, is_token_text, printed, printed_pair, printed_value, Pair}
-use Rattle.data_url.specs.Mime.{BeginsParameters, DoesNotBegin, DoesNotEnd, Every, GivesValue, IsHead, IsParameter}
-use Rattle.data_url.specs.Mime.{IsWellformed, Item, Items, Parses, Quoted, Record, first_of_each_name}
-use Rattle.data_url.specs.Mime.{has_distinct_names, has_name, is_lowercase_name, is_quote, kept_pairs, plain, quoted}
-use Rattle.data_url.specs.Mime.{unless_empty, valid_pairs, after_backslash, nothing_quoted, as_itself}
-use Rattle.data_url.specs.Steps.Parsing.{is_escaped}
-use Rattle.data_url.specs.MimeType.{code_points, pair_of, record_of, SameTexts, same_pair, same_texts, texts_of_pair}
-use Rattle.data_url.specs.declared.mime.Mime.{Mime}
-use Rattle.data_url.proofs.texts.CodePoints.{no_chars, end_stays, not_ends_every, front_is}
-use Rattle.std.specs.Prelude.{◌↔◌, Decides, IsTrue}
-use Rattle.std.proofs.lemmas.Simd.{map-map}
-use Rattle.std.specs.Cmp.Lexicographic.{pointwise}
+use Rattle.std.proofs.Common.{append-nil, drop-cons, drop_of_length-le, arith, ◌==◌, ◌||◌, ◌&&◌, not, Some, ap, ◌↔◌}
+use Rattle.std.proofs.Common.{◌≡◌, ℕ, ◌+◌, ◌<◌, ◌≤◌, Bool, true, false, List, [], ◌∷◌, ◌++◌, length, get_or, drop}
+use Rattle.std.proofs.Output.{has_written_styled_append, has_written_styled_nil, has_written_styled_of_eq}
 use Rattle.std.proofs.lemmas.Bool.{and_from, and_parts, agree_below, agree_below_at, both_ways, cond-true, cond_both}
 use Rattle.std.proofs.lemmas.Bool.{eqb-false, or_parts, false≢true}
-use Rattle.std.proofs.lemmas.Slice.Eq.{bytes_eq-Decides}
-use Rattle.std.proofs.lemmas.List.Folds.{list_any-append}
+use Rattle.std.{proofs.lemmas.List.Folds.{list_any-append}, proofs.lemmas.Slice.Eq.{bytes_eq-Decides}}
+use Rattle.std.{proofs.lemmas.Simd.{map-map}, proofs.lemmas.Str.{encodes-chars}, specs.Fmt.{HasWrittenStyled, IsFlush}}
+use Rattle.std.proofs.lemmas.Str.{IsUtf8-append, IsUtf8-string_bytes, chars_past_char, encode_ascii, encodes-append}
+use Rattle.std.{specs.Cmp.Lexicographic.{pointwise}, specs.declared.fmt.Formatter.{Formatter}}
 use Rattle.data_url.specs.CodePoints.{ends_name, is_http_whitespace, is_quotable, is_semicolon, is_token}
-use Rattle.data_url.proofs.mime.TokenTexts.{every_token, token_below}
-use Rattle.data_url.proofs.mime.Items.{not_begins_append, has_at_most_one_record}
+use Rattle.data_url.specs.Mime.{BeginsParameters, DoesNotBegin, DoesNotEnd, Every, GivesValue, IsHead, IsParameter}
+use Rattle.data_url.specs.Mime.{IsWellformed, Item, Items, Parses, Quoted, Record, first_of_each_name}
+use Rattle.data_url.specs.Mime.{Without, escaped_code_point, is_token_text, printed, printed_pair, printed_value, Pair}
+use Rattle.data_url.specs.Mime.{has_distinct_names, has_name, is_lowercase_name, is_quote, kept_pairs, plain, quoted}
+use Rattle.data_url.specs.Mime.{unless_empty, valid_pairs, after_backslash, nothing_quoted, as_itself}
+use Rattle.data_url.specs.MimeType.{code_points, pair_of, record_of, SameTexts, same_pair, same_texts, texts_of_pair}
+use Rattle.data_url.specs.{Steps.Parsing.{HasLowercaseNames, is_escaped}, Steps.Printing.{Adds, IsHeld, held}}
+use Rattle.data_url.specs.{declared.mime.Mime.{Mime}, declared.mime.line.Line.{Line}}
 use Rattle.data_url.proofs.mime.FirstNames.{lower_is_itself, test_from_different}
-use Rattle.data_url.proofs.mime.Parsing.{ends_after}
+use Rattle.data_url.proofs.mime.Items.{not_begins_append, has_at_most_one_record}
+use Rattle.data_url.proofs.mime.Parsing.{ends_after, unescaped_steady, whole_passes}
+use Rattle.data_url.proofs.mime.TokenTexts.{every_token, token_below}
+use Rattle.data_url.proofs.texts.CodePoints.{no_chars, end_stays, not_ends_every, front_is}
+use lib.Utf8.{encode}
 
--- if the bytes so far and the escaped code points of r are the whole, they still are after the first code point of r is
--- escaped and moved to them
-pub escaped_more : (r r' done whole : List ℕ) (c : ℕ) → IsUtf8 r → r ≡ encode_utf8 c ++ r'
-    → done ++ encode_utf8_all (flat_map escaped_code_point (chars r)) ≡ whole
-    → (done ++ encode_utf8_all (escaped_code_point c)) ++ encode_utf8_all (flat_map escaped_code_point (chars r'))
-    ≡ whole
+-- moving the first code point of r, escaped, to the bytes so far preserves that these and the escaped r are the whole
+pub escaped_more : (r r' done whole : List ℕ) (c : ℕ) → IsUtf8 r → r ≡ encode_utf8 c ++ r' → done
+    ++ encode_utf8_all (flat_map escaped_code_point (chars r)) ≡ whole → (done
+    ++ encode_utf8_all (escaped_code_point c)) ++ encode_utf8_all (flat_map escaped_code_point (chars r')) ≡ whole
 escaped_more r r' done whole c u e h = grind (arith, append_assoc, chars_past_char)
 
 -- if nothing is left to be escaped, the bytes so far are the whole
@@ -57,22 +47,15 @@ pub plain_text : (v : List ℕ) → IsUtf8 v → Without is_escaped (chars v)
     → v ≡ encode_utf8_all (flat_map escaped_code_point (chars v))
 plain_text v u h = grind (arith, encodes-chars, encode_utf8_all, plain_chars)
 
--- a value that is a token text is printed as it is, after any bytes
-pub token_value : (before v : List ℕ) (b : Bool) → IsUtf8 v → b ≡ is_token_text (chars v) → b ≡ true
-    → before ++ v ≡ before ++ encode_utf8_all (printed_value (chars v))
-token_value before v b u e h = grind (arith, encodes-chars)
-
 -- a value that is not a token text is printed as its escaped code points in quotes
-pub quoted_value_text : (before v : List ℕ) (b : Bool) → b ≡ is_token_text (chars v) → b ≡ false
-    → ((before ++ (34 ∷ [])) ++ encode_utf8_all (flat_map escaped_code_point (chars v))) ++ (34 ∷ [])
-    ≡ before ++ encode_utf8_all (printed_value (chars v))
-quoted_value_text before v b e h = grind (arith, encode_ascii, append_assoc, encodes-append)
+pub quoted_value_text : (v : List ℕ) (b : Bool) → b ≡ is_token_text (chars v) → b ≡ false → ((34 ∷ [])
+    ++ encode_utf8_all (flat_map escaped_code_point (chars v))) ++ (34 ∷ []) ≡ encode_utf8_all (printed_value (chars v))
+quoted_value_text v b e h = grind (arith, encode_ascii, encodes-append)
 
 -- ';', the name, '=', and the printed value are the UTF-8 of the printed pair
-pub parameter_text : (before name value : List ℕ) → IsUtf8 name
-    → (((before ++ (59 ∷ [])) ++ name) ++ (61 ∷ [])) ++ encode_utf8_all (printed_value (chars value))
-    ≡ before ++ encode_utf8_all (printed_pair (chars name, chars value))
-parameter_text before name value u = grind (arith, encode_ascii, append_assoc, encodes-chars, encodes-append)
+pub parameter_text : (name value : List ℕ) → IsUtf8 name → (((59 ∷ []) ++ name) ++ (61 ∷ []))
+    ++ encode_utf8_all (printed_value (chars value)) ≡ encode_utf8_all (printed_pair (chars name, chars value))
+parameter_text name value u = grind (arith, encode_ascii, append_assoc, encodes-chars, encodes-append)
 
 -- the bytes of a `String` are the UTF-8 of its code points
 pub text_bytes : {A : Type 0} (s : String A) → string_bytes s ≡ encode_utf8_all (code_points s)
@@ -82,53 +65,87 @@ text_bytes s = sym (encodes-chars (string_bytes s) (IsUtf8-string_bytes s))
 abbrev pub pairs_text : {A B : Type 0} → List (String A × String B) → List ℕ
 pairs_text pairs = encode_utf8_all (flat_map printed_pair (map (λ p. pair_of p) pairs))
 
-module _ {A B : Type 0} {pairs items : List (String A × String B)} (i : ℕ) (done : List ℕ) {whole : List ℕ}
-    (e : items ≡ pairs) (h : done ++ pairs_text (drop i pairs) ≡ whole) where
-  -- if the bytes so far and the printed pairs from index i on are the whole, they still are after pair i, of which a
-  -- and b are the bytes, is printed and moved to them
-  pub record_more : {item : String A × String B} (a b : List ℕ) → i < length items → item ≡ get_or items i item
-      → a ≡ string_bytes item.0 → b ≡ string_bytes item.1
-      → (done ++ encode_utf8_all (printed_pair (chars a, chars b))) ++ pairs_text (drop (i + 1) pairs) ≡ whole
-  record_more a b l g f k = grind (arith, append_assoc, drop-cons, encodes-append)
-
-  -- if no pairs are left, the bytes so far are the whole
-  pub record_ends : length items ≤ i → done ≡ whole
-  record_ends l = grind (arith, append-nil, drop_of_length-le)
-
--- if a and b are the bytes of the type and of the subtype, the parts of a printed record join to its text
-pub record_starts : (m : Mime) (a b : List ℕ) → a ≡ string_bytes m.type_ → b ≡ string_bytes m.subtype
-    → ((a ++ (47 ∷ [])) ++ b) ++ pairs_text m.parameters.items ≡ encode_utf8_all (printed (record_of m))
-unfolding printed
-record_starts m a b e f = grind (arith, append_assoc, encode_ascii, text_bytes, encodes-append)
-
--- if the bytes that a line holds and the text a are UTF-8, m holds both, and m.len is at most 128, then the bytes of m
--- fit and are UTF-8
+-- if what a line holds and the text a are UTF-8, and m holds both in at most 128 bytes, they fit and are UTF-8
 pub held_more : (l m : Line) (a : List ℕ) → IsUtf8 (held l) → IsUtf8 a → held m ≡ held l ++ a → m.len ≤ 128 → IsHeld m
 held_more l m a u w e h = record { fits = h; text = subst IsUtf8 (sym e) (IsUtf8-append (held l) a u w) }
 
-module _ {W : Type 0} {took : W → List ℕ → W → Type 0} {start : Formatter W} {before : List ℕ} where
-  -- a text that is put into the buffer is appended
-  pub added_held : {f : Formatter W} {l m : Line} (a : List ℕ) → Adds took start before f l → held m ≡ held l ++ a
-      → Adds took start (before ++ a) f m
-  added_held {l = l} a x e = grind (arith, append_assoc)
+module _ {W : Type 0} {took : W → List ℕ → W → Type 0} {f : Formatter W} {l : Line} where
+  -- a text and then another are added as one text
+  pub adds_more : {g h : Formatter W} {m n : Line} {a b : List ℕ} → Adds took f l a g m → Adds took g m b h n
+      → Adds took f l (a ++ b) h n
+  adds_more x y = record {
+    written = x.written ++ y.written;
+    wrote = λ p. has_written_styled_append _ _ _ _ _ _ (x.wrote p) (y.wrote (x.wrote p).flush);
+    joined = grind (arith, append_assoc);
+  }
 
-  -- once the buffer is written, all is
-  pub added_flushed : {f g : Formatter W} {l : Line} → Adds took start before f l → HasWrittenStyled took f (held l) g
-      → HasWrittenStyled took start before g
-  added_flushed x y = grind (arith, has_written_styled_of_eq, has_written_styled_append)
+  -- a text that is equal to one that is added is added
+  pub adds_same : {g : Formatter W} {m : Line} {a b : List ℕ} → a ≡ b → Adds took f l a g m → Adds took f l b g m
+  adds_same {a = a} {b = b} e x = grind arith
 
-  -- if all is written, and the buffer is empty, all is added
-  pub added_none : {f : Formatter W} (m : Line) → HasWrittenStyled took start before f → m.len ≡ 0
-      → Adds took start before f m
-  added_none m x e = grind (arith, append-nil)
+  -- a text that is put into the buffer is added
+  pub adds_held : {m : Line} {a : List ℕ} → held m ≡ held l ++ a → Adds took f l a f m
+  adds_held e = record { written = []; wrote = has_written_styled_nil _ _; joined = grind arith }
 
-  -- if a text is added, a text that is equal to it is
-  pub added_of_eq : {f : Formatter W} {l : Line} {after : List ℕ} → before ≡ after → Adds took start before f l
-      → Adds took start after f l
-  added_of_eq {f} {l} e = grind arith
+  -- so it is if the buffer is written first
+  pub adds_after : {g : Formatter W} (m : Line) {n : Line} {a : List ℕ}
+      → (IsFlush f → HasWrittenStyled took f (held l) g) → m.len ≡ 0 → held n ≡ held m ++ a → Adds took f l a g n
+  adds_after m x z e = record { written = held l; wrote = x; joined = grind arith }
+
+  -- a text that is written after the buffer is added
+  pub adds_written : {g h : Formatter W} {m : Line} {a : List ℕ} → (IsFlush f → HasWrittenStyled took f (held l) g)
+      → (IsFlush g → HasWrittenStyled took g a h) → m.len ≡ 0 → Adds took f l a h m
+  adds_written {a = a} x y z = record {
+    written = held l ++ a;
+    wrote = λ p. has_written_styled_append _ _ _ _ _ _ (x p) (y (x p).flush);
+    joined = grind (arith, append-nil);
+  }
+
+-- what is written, what the line holds, and what is left are together the whole text
+pub record Prints {W : Type 0} (took : W → List ℕ → W → Type 0) (start : Formatter W) (left whole : List ℕ)
+    (f : Formatter W) (line : Line) : Type 0 where
+  pub written : List ℕ
+  pub wrote : IsFlush start → HasWrittenStyled took start written f
+  pub joined : written ++ (held line ++ left) ≡ whole
+
+module _ {W : Type 0} {took : W → List ℕ → W → Type 0} {f g : Formatter W} {l : Line} where
+  -- after the type, '/', and the subtype, the printed pairs are left
+  pub prints_starts : (r : Mime) (a b : List ℕ) {m : Line} → l.len ≡ 0 → a ≡ string_bytes r.type_
+      → b ≡ string_bytes r.subtype → Adds took f l ((a ++ (47 ∷ [])) ++ b) g m
+      → Prints took f (pairs_text r.parameters.items) (encode_utf8_all (printed (record_of r))) g m
+  unfolding printed
+  prints_starts r a b z d e x = record {
+    written = x.written;
+    wrote = x.wrote;
+    joined = grind (arith, append_assoc, encode_ascii, text_bytes, encodes-append);
+  }
+
+  module _ {A B : Type 0} {pairs items : List (String A × String B)} {start : Formatter W} (i : ℕ) {whole : List ℕ}
+      (x : Prints took start (pairs_text (drop i pairs)) whole f l) (e : items ≡ pairs) where
+    -- after pair i is added, of which a and b are the bytes, the pairs from i + 1 on are left
+    pub prints_more : {item : String A × String B} {m : Line} {a b : List ℕ} → Adds took f l (encode_utf8_all
+        (printed_pair (chars a, chars b))) g m → i < length items → item ≡ get_or items i item → a ≡ string_bytes item.0
+        → b ≡ string_bytes item.1 → Prints took start (pairs_text (drop (i + 1) pairs)) whole g m
+    prints_more y l k a b = record {
+      written = x.written ++ y.written;
+      wrote = λ p. has_written_styled_append _ _ _ _ _ _ (x.wrote p) (y.wrote (x.wrote p).flush);
+      joined = grind (arith, append_assoc, drop-cons, encodes-append);
+    }
+
+    -- if no pairs are left, all is written once the buffer is
+    pub prints_ends : length items ≤ i → (IsFlush f → HasWrittenStyled took f (held l) g) → IsFlush start
+        → HasWrittenStyled took start whole g
+    prints_ends l y p = has_written_styled_of_eq _ _ _ _ _ (grind (arith, append-nil, drop_of_length-le))
+        (has_written_styled_append _ _ _ _ _ _ (x.wrote p) (y (x.wrote p).flush))
+
+-- the lemmas for `push_value`
+pub ruleset values = (adds_same, encodes-chars)
+
+-- the lemmas for `push_escaped`
+pub ruleset escapes = (adds_written, plain_text, whole_passes, unescaped_steady)
 
 -- the lemmas for `line.rt`
-pub ruleset lines = (added_held, added_flushed, added_none, held_more)
+pub ruleset lines = (adds_held, adds_after, adds_written, held_more)
 
 -- the test of two lists, pair by pair, is true exactly if the lists have equal texts
 pairs_decide : {A B : Type 0} (ps qs : List (String A × String B))
@@ -143,9 +160,8 @@ pub same_decides : (m n : Mime) → IsTrue (same_texts m n) ↔ SameTexts m n
 same_decides m n = grind (arith, pairs_decide, bytes_eq-Decides)
 
 -- if the texts of all pairs are equal one by one, the lists of texts of pairs are equal
-pub copied_pairs : {A B : Type 0} (ps qs : List (String A × String B))
-    → AllZip (λ p q. (string_bytes q.0 ≡ string_bytes p.0) × (string_bytes q.1 ≡ string_bytes p.1)) ps qs
-    → map texts_of_pair qs ≡ map texts_of_pair ps
+pub copied_pairs : {A B : Type 0} (ps qs : List (String A × String B)) → AllZip (λ p q. (string_bytes q.0
+    ≡ string_bytes p.0) × (string_bytes q.1 ≡ string_bytes p.1)) ps qs → map texts_of_pair qs ≡ map texts_of_pair ps
 copied_pairs [] [] h = refl
 copied_pairs [] (q ∷ qs) h = absurd h
 copied_pairs (p ∷ ps) [] h = absurd h
@@ -198,11 +214,9 @@ ends_with p (d ∷ e ∷ a) c b h = ends_with p (e ∷ a) c b h
 -- a text, escaped, is the text of a quoted string whose value is the text
 quoted_escaped : (v : List ℕ) → Quoted (flat_map escaped_code_point v) v
 quoted_escaped [] = nothing_quoted
-quoted_escaped (c ∷ v) = cond_both ((c == 34) || (c == 92)) (92 ∷ c ∷ []) (c ∷ [])
-    (λ t. Quoted (t ++ flat_map escaped_code_point v) (c ∷ v))
-    (λ e. after_backslash c (quoted_escaped v))
-    (λ e. let p = or_parts (c == 34) (c == 92) e in as_itself c (eqb-false c 34 p.0) (eqb-false c 92 p.1)
-    (quoted_escaped v))
+quoted_escaped (c ∷ v) = cond_both ((c == 34) || (c == 92)) (92 ∷ c ∷ []) (c ∷ []) (λ t. Quoted (t
+    ++ flat_map escaped_code_point v) (c ∷ v)) (λ e. after_backslash c (quoted_escaped v)) (λ e. let p = or_parts
+    (c == 34) (c == 92) e in as_itself c (eqb-false c 34 p.0) (eqb-false c 92 p.1) (quoted_escaped v))
 
 -- '=' and a token text give the token text as value
 plain_value : (v rest : List ℕ) → is_token_text v ≡ true → GivesValue (61 ∷ v) rest (Some v)
@@ -223,10 +237,9 @@ gives_value v rest = cond_both (is_token_text v) v (34 ∷ (flat_map escaped_cod
 -- '=' and a printed value do not end with HTTP whitespace
 value_not_end : (v : List ℕ) → DoesNotEnd is_http_whitespace (61 ∷ printed_value v)
 unfolding is_token
-value_not_end v = cond_both (is_token_text v) v (34 ∷ (flat_map escaped_code_point v ++ (34 ∷ [])))
-    (λ t. DoesNotEnd is_http_whitespace (61 ∷ t))
-    (λ e. ends_after is_http_whitespace 61 v refl (tokens_end is_http_whitespace refl v (every_token v e)))
-    (λ e. ends_with is_http_whitespace (61 ∷ 34 ∷ flat_map escaped_code_point v) 34 [] refl)
+value_not_end v = cond_both (is_token_text v) v (34 ∷ (flat_map escaped_code_point v ++ (34 ∷ []))) (λ t. DoesNotEnd
+    is_http_whitespace (61 ∷ t)) (λ e. ends_after is_http_whitespace 61 v refl (tokens_end is_http_whitespace refl v
+    (every_token v e))) (λ e. ends_with is_http_whitespace (61 ∷ 34 ∷ flat_map escaped_code_point v) 34 [] refl)
 
 -- each code point of a lower-case name is a token code point
 name_tokens : (t : List ℕ) → is_lowercase_name t ≡ true → Every is_token t
@@ -248,25 +261,17 @@ is_parameter p rest h = record {
   value_is = gives_value p.1 rest;
 }
 
--- all names are lower-case
-abbrev have_names : List Pair → Bool
-have_names pairs = list_all (λ (p : Pair). is_lowercase_name p.0) pairs
-
 -- the item of a pair
 abbrev item_of : Pair → Item
 item_of p = (p.0, Some p.1)
 
 -- the text of printed pairs with lower-case names has the items of the pairs
-printed_items : (pairs : List Pair) → have_names pairs ≡ true → Items (flat_map printed_pair pairs) (map item_of pairs)
+printed_items : (pairs : List Pair) → HasLowercaseNames pairs → Items (flat_map printed_pair pairs) (map item_of pairs)
 printed_items [] h = refl
 printed_items (p ∷ pairs) h =
-    let k = and_parts (is_lowercase_name p.0) (have_names pairs) h in (
-      printed_pair p,
-      flat_map printed_pair pairs,
-      refl,
-      is_parameter p (flat_map printed_pair pairs) k.0,
-      printed_items pairs k.1,
-    )
+    let k = and_parts (is_lowercase_name p.0) _ h in
+    let rest = flat_map printed_pair pairs in
+    (printed_pair p, rest, refl, is_parameter p rest k.0, printed_items pairs k.1)
 
 -- the text of printed pairs is empty or begins with ';'
 pairs_begin : (pairs : List Pair) → BeginsParameters (flat_map printed_pair pairs)
@@ -282,9 +287,8 @@ pairs_not_end (p ∷ pairs) t h = rw (← append_assoc t (printed_pair p) (flat_
     (ends_with is_http_whitespace (59 ∷ p.0) 61 (printed_value p.1) (value_not_end p.1))))
 
 -- pairs with lower-case names and values of quoted-string code points are all valid
-all_valid : (pairs : List Pair) → have_names pairs ≡ true
-    → list_all (λ (p : Pair). list_all is_quotable p.1) pairs ≡ true
-    → valid_pairs (map item_of pairs) ≡ pairs
+all_valid : (pairs : List Pair) → HasLowercaseNames pairs
+    → list_all (λ (p : Pair). list_all is_quotable p.1) pairs ≡ true → valid_pairs (map item_of pairs) ≡ pairs
 all_valid [] h k = refl
 all_valid (p ∷ pairs) h k = grind (arith, and_parts, cond-true, and_from, all_valid pairs)
 
@@ -321,15 +325,7 @@ printed_ends m w = rw (← append_assoc m.type_ (47 ∷ m.subtype) (flat_map pri
 -- a well-formed record, printed, has its type, its subtype and its printed parameters as head
 printed_head : (m : Record) → IsWellformed m → IsHead (printed m) m.type_ m.subtype (flat_map printed_pair m.parameters)
 unfolding printed
-printed_head m w =
-    grind (
-      arith,
-      front_is is_http_whitespace [] (printed m) tt (printed_begins m w),
-      end_stays,
-      printed_ends,
-      and_parts,
-      pairs_begin,
-    )
+printed_head m w = grind (arith, front_is, printed_begins, end_stays, printed_ends, and_parts, pairs_begin)
 
 -- a well-formed record, printed, parses to the record
 pub printed_parses : (m : Record) → IsWellformed m → Parses (printed m) m

@@ -1,23 +1,19 @@
 -- Texts of token code points, and quoted strings. For `tokens.rt`, `values.rt` and `split_quote`.
-use Rattle.std.proofs.Common.{◌-◌, ◌≡◌, ℕ, ◌<◌, ◌≤◌, ◌==◌, ◌&&◌, nat_lt, codes, true, false, not, List, [], ◌∷◌, length}
-use Rattle.std.proofs.Common.{refl, sym, ap, subst, Bool, ◌∙◌, arith, take, drop, length-take-le, ◌+◌, cond, ◌++◌}
 use Rattle.std.proofs.Common.{append_assoc, append-nil, eqb-true, inl, inr, suc, get_or, encode_utf8_all}
-use Rattle.std.proofs.Common.{take-append-drop, drop-cons, add-one, drop_of_length-le, Some, nat_le}
+use Rattle.std.{proofs.Common.{drop-drop}, proofs.lemmas.Bool.{and_parts, and_from, cases_lt, eqb-false}}
+use Rattle.std.proofs.Common.{refl, sym, ap, subst, Bool, ◌∙◌, arith, take, drop, length-take-le, ◌+◌, cond, ◌++◌}
+use Rattle.std.proofs.Common.{take-append-drop, drop-cons, add-one, drop_of_length-le, Some, nat_le, length-append}
+use Rattle.std.proofs.Common.{◌-◌, ◌≡◌, ℕ, ◌<◌, ◌≤◌, ◌==◌, ◌&&◌, nat_lt, codes, true, false, not, List, [], ◌∷◌, length}
+use Rattle.std.{proofs.Math.Seq.{take-append_seam, take-length, drop-append-add}, specs.Str.{IsAscii, IsUtf8, chars}}
+use Rattle.std.{proofs.lemmas.List.Sums.{prefix_len-le-length}, specs.List.{list_all, list_any, prefix_len, suffix_len}}
 use Rattle.std.proofs.lemmas.Str.{chars-IsAscii, encodes-IsAscii, encodes-chars, chars-nil, chars_past_char}
 use Rattle.std.proofs.lemmas.Str.{encode_ascii, IsUtf8-drop, IsCharBoundary-before_ascii, IsCharBoundary-after_ascii}
-use Rattle.std.proofs.lemmas.Bool.{and_parts, and_from, cases_lt, eqb-false}
-use Rattle.std.proofs.lemmas.List.Sums.{prefix_len-le-length}
-use Rattle.std.specs.List.{list_all, list_any, prefix_len, suffix_len}
-use Rattle.std.specs.Str.{IsAscii, IsUtf8, chars}
-use Rattle.data_url.specs.CodePoints.{is_http_whitespace, is_token}
+use Rattle.data_url.specs.{CodePoints.{is_http_whitespace, is_token}, Url.{without_front}}
 use Rattle.data_url.specs.Mime.{Every, is_token_text, Quoted, QuotedOpen, after_backslash, nothing_quoted, as_itself}
 use Rattle.data_url.specs.Steps.Parsing.{IsTokens, in_name, in_value, quoted_len, quoted_reading, unescaped}
 use Rattle.data_url.proofs.texts.CodePoints.{IsCutInto, IsEnd, IsSteady, cut_end, cut_front, every_ascii, front_passes}
 use Rattle.data_url.proofs.texts.CodePoints.{cut_into}
-use Rattle.std.proofs.lemmas.List.{length-append, drop-drop}
-use Rattle.std.proofs.Math.Seq.{take-append_seam, take-length, drop-append-add}
 use lib.Utf8.{encode}
-use Rattle.data_url.specs.Url.{without_front}
 
 -- a code point that is not ASCII is none of some ASCII marks
 any_other : (c : ℕ) (marks : List ℕ) → list_all (λ m. nat_lt m 128) marks ≡ true → 128 ≤ c
@@ -143,8 +139,7 @@ closed_reading q v w h =
 pub open_reading : (q v : List ℕ) → QuotedOpen q v → quoted_reading q ≡ record { value = Some v; rest = [] }
 open_reading q v h =
     let o = quoted_open q v h in
-    let d : drop (suc (length q)) q ≡ [] = drop_of_length-le q {i = suc (length q)} (omega arith) in
-    cc (o.0, o.1, d, take-length q)
+    cc (o.0, o.1, drop_of_length-le q {i = suc (length q)} (omega arith), take-length q)
 
 -- the text with a backslash before it if the flag is true
 abbrev pub flagged : Bool → List ℕ → List ℕ
@@ -202,16 +197,14 @@ quoted_encodes : (e : Bool) (cs : List ℕ)
     → quoted_len e (encode_utf8_all cs) ≡ length (encode_utf8_all (take (quoted_len e cs) cs))
 quoted_encodes e [] = refl
 quoted_encodes true (c ∷ cs) = grind (arith, quoted_char, encode_utf8_all, length-append, quoted_encodes false cs)
-quoted_encodes false (c ∷ cs) =
-    grind (arith, quoted_char, encode_utf8_all, encode, length-append, quoted_encodes (c == 92) cs)
+quoted_encodes false (c ∷ cs) = grind (arith, quoted_char, length-append, quoted_encodes (c == 92) cs)
 
 -- a UTF-8 text is cut at its closing quote where its code points are
 pub cut_quote : (bs : List ℕ) → IsUtf8 bs → IsCutInto bs (quoted_len false bs)
     (take (quoted_len false (chars bs)) (chars bs)) (drop (quoted_len false (chars bs)) (chars bs))
 cut_quote bs u =
     let n = quoted_len false (chars bs) in
-    cut_into bs (take n (chars bs)) (drop n (chars bs)) (quoted_len false bs) u
-    (sym (take-append-drop n (chars bs)))
+    cut_into bs (take n (chars bs)) (drop n (chars bs)) (quoted_len false bs) u (sym (take-append-drop n (chars bs)))
     (ap (quoted_len false) (sym (encodes-chars bs u)) ∙ quoted_encodes false (chars bs))
 
 module _ {bs : List ℕ} {i : ℕ} (u : IsUtf8 bs) (l : i < length bs) (g : get_or bs i 0 ≡ 34)
@@ -225,18 +218,14 @@ module _ {bs : List ℕ} {i : ℕ} (u : IsUtf8 bs) (l : i < length bs) (g : get_
   after_quote =
       let cut = cut_quote bs u in
       let text = IsUtf8-drop bs i u (IsCharBoundary-before_ascii bs i l (omega arith)) in
-      let first = chars_past_char (drop i bs) (drop (suc i) bs) 34 text (cc (
-        drop-cons bs i 0 l,
-        encode_ascii 34
-            (omega arith),
-      )) in
+      let first = chars_past_char (drop i bs) (drop (suc i) bs) 34 text
+      (grind (arith, drop-cons, encode_ascii)) in
       let n = quoted_len false (chars bs) in
       cc (first, quote_at, cut.after, drop-drop 1 n (chars bs), add-one i, add-one n)
 
 -- if the search reaches the end of a text, there is no closing quote
 pub no_quote : {bs bytes : List ℕ} {i : ℕ} (e : Bool) → IsUtf8 bs → bytes ≡ bs → length bytes ≤ i
-    → i + quoted_len e (drop i bs) ≡ quoted_len false bs
-    → (chars bs ≡ take (quoted_len false (chars bs)) (chars bs))
+    → i + quoted_len e (drop i bs) ≡ quoted_len false bs → (chars bs ≡ take (quoted_len false (chars bs)) (chars bs))
     × (chars [] ≡ drop (suc (quoted_len false (chars bs))) (chars bs))
 no_quote {bs} {bytes} {i} e u b l h =
     let none : drop i bs ≡ [] = drop_of_length-le bs {i = i} (omega (arith, ap length b)) in

@@ -1,30 +1,23 @@
 -- Percent-encoding with the rows of a table, and decoding of encoded texts. For `push_encoded`.
 use Rattle.std.proofs.Common.{append_assoc, ◌≡◌, ℕ, ◌*◌, ◌+◌, ◌-◌, ◌<◌, ◌&&◌, ◌||◌, Bool, false, true, List, [], ◌∷◌}
 use Rattle.std.proofs.Common.{length, take, drop, refl, ◌/◌, ◌%◌, not, ◌++◌, Option, None, Some, sym, ap, ◌∙◌, inl, inr}
-use Rattle.std.proofs.Common.{subst, append-nil, arith, suc, ◌≤◌, get_or}
-use Rattle.std.specs.Prelude.{◌==◌, slice_index, nat_lt}
-use Rattle.std.specs.Str.{bytes_eq, IsAscii, IsUtf8}
+use Rattle.std.{proofs.Common.{length-take-le, take-take}, proofs.lemmas.Slice.Eq.{bytes_eq-Decides}}
+use Rattle.std.proofs.Common.{subst, append-nil, arith, suc, ◌≤◌, get_or, ◌==◌, slice_index, nat_lt, take_all}
+use Rattle.std.proofs.Math.Seq.{take-append-add}
 use Rattle.std.proofs.lemmas.Bool.{agree_below, agree_below_at, and_parts, eqb-true, and_left, cases_Bool, cond_both}
-use Rattle.std.proofs.lemmas.Bool.{both_ways, ne_eqb, ltb-true, not-true}
-use Rattle.std.proofs.lemmas.Slice.Eq.{bytes_eq-Decides}
-use Rattle.data_url.specs.Url.{in_path_set, in_query_set, before, after, encoded_byte, encoded_path, hex_digit}
+use Rattle.std.{proofs.lemmas.Bool.{both_ways, ne_eqb, ltb-true, not-true}, specs.Char.{digit_value, is_ascii_hexdigit}}
+use Rattle.std.{proofs.lemmas.Grind.{flat_map-append}, proofs.lemmas.Str.Ascii.{IsAscii-nil}}
+use Rattle.std.{proofs.lemmas.List.{nil_from_length, take_more}, proofs.lemmas.Str.{IsAscii-append, IsUtf8-from_ascii}}
+use Rattle.std.{specs.List.{AllByRecursion, list_all}, specs.Str.{bytes_eq, IsAscii, IsUtf8}}
+use Rattle.data_url.specs.{Percent.{percent_decoding}, declared.percent.EncodeSet.TheVariants.{Fragment, Path, Query}}
+use Rattle.data_url.specs.{Steps.Header.{header_parts, header_text}, Steps.Sets.{IsRow, byte_encoding, in_set}}
 use Rattle.data_url.specs.Url.{in_path_end_set, percent_encoding, serialised, with_query, without_tabs_and_newlines}
-use Rattle.data_url.specs.Steps.Sets.{IsRow, byte_encoding, in_set}
+use Rattle.data_url.specs.Url.{in_path_set, in_query_set, before, after, encoded_byte, encoded_path, hex_digit}
+use Rattle.data_url.specs.declared.percent.EncodeSet.{EncodeSet}
 use Rattle.data_url.proofs.classes.Rows.{unmarked_passes}
-use Rattle.std.specs.Char.{digit_value, is_ascii_hexdigit}
-use Rattle.std.specs.List.{AllByRecursion, list_all}
-use Rattle.data_url.specs.Steps.Header.{header_parts, header_text}
-use Rattle.data_url.specs.Percent.{percent_decoding}
-use Rattle.data_url.proofs.texts.Bytes.{first_byte, before-append, before_at, before_nil, before_other, before_same}
 use Rattle.data_url.proofs.texts.Bytes.{after_nil, after_other, after_same, lacks, dropped_keeps, dropped_nil}
 use Rattle.data_url.proofs.texts.Bytes.{dropped_passes, without_tabs_and_newlines-append}
-use Rattle.std.proofs.Math.Seq.{take-append-add}
-use Rattle.std.proofs.lemmas.Grind.{flat_map-append}
-use Rattle.std.proofs.lemmas.List.{nil_from_length, take_all, take_more, length-take-le, take-take}
-use Rattle.std.proofs.lemmas.Str.{IsAscii-append, IsUtf8-from_ascii}
-use Rattle.std.proofs.lemmas.Str.Ascii.{IsAscii-nil}
-use Rattle.data_url.specs.declared.percent.EncodeSet.TheVariants.{Fragment, Path, Query}
-use Rattle.data_url.specs.declared.percent.EncodeSet.{EncodeSet}
+use Rattle.data_url.proofs.texts.Bytes.{first_byte, before-append, before_at, before_nil, before_other, before_same}
 
 -- the row of a byte in a table
 abbrev pub row_at : List ℕ → ℕ → List ℕ
@@ -73,13 +66,9 @@ set_no_hex b l h = not-true (is_ascii_hexdigit b)
 set_other : (b c : ℕ) → in_query_set c ≡ false → in_query_set b ≡ true → (b == c) ≡ false
 set_other b c e h = grind (arith, ne_eqb, both_ways)
 
--- the value of the hexadecimal digit of a number below 16 is that number
-hex_digit_value : (d : ℕ) → d < 16 → digit_value (hex_digit d) ≡ d
-hex_digit_value d l = grind arith
-
--- the upper-case hexadecimal digit of a number below 16 is a hexadecimal digit
-hex_digit_hex : (d : ℕ) → d < 16 → is_ascii_hexdigit (hex_digit d) ≡ true
-hex_digit_hex d l = grind (arith, agree_below_at)
+-- the upper-case hexadecimal digit of a number below 16 is a hexadecimal digit with that value
+hex_digit_is : (d : ℕ) → d < 16 → (digit_value (hex_digit d) ≡ d) × (is_ascii_hexdigit (hex_digit d) ≡ true)
+hex_digit_is d l = grind (arith, agree_below_at)
 
 -- the text begins with two hexadecimal digits
 abbrev pub two_digits : List ℕ → Bool
@@ -104,7 +93,7 @@ decoded_escape b c s h k = grind arith
 -- the two digits of a byte are decoded to the byte
 decoded_written : (b : ℕ) (x : List ℕ) → b < 256 → percent_decoding (37 ∷ hex_digit (b / 16) ∷ hex_digit (b % 16) ∷ x)
     ≡ b ∷ percent_decoding x
-decoded_written b x l = grind (arith, decoded_escape, hex_digit_hex, hex_digit_value)
+decoded_written b x l = grind (arith, decoded_escape, hex_digit_is)
 
 -- percent-encoding bytes of the query's set does not change whether a text begins with two hexadecimal digits
 same_digits : {s x : List ℕ} → Recoded s x → two_digits x ≡ two_digits s
@@ -161,8 +150,7 @@ recoded_byte : (p : ℕ → Bool) → ((b : ℕ) → p b ≡ true → in_query_s
     → Recoded s x → Recoded (b ∷ s) (encoded_byte p b ++ x)
 recoded_byte p within b s x l r = grind (arith, cond_both, written, kept)
 
--- if each byte of the set p is in the query's set, the percent-encoding of a text with p is the text with some bytes of
--- the query's set percent-encoded
+-- if the query's set has each byte of the set p, encoding with p encodes only bytes of the query's set
 pub is_recoded : (p : ℕ → Bool) → ((b : ℕ) → p b ≡ true → in_query_set b ≡ true) → (s : List ℕ) → IsBytes s
     → Recoded s (percent_encoding p s)
 is_recoded p within [] h = subst (λ x. Recoded [] x) (sym (encoded_nil p)) none
@@ -196,14 +184,12 @@ unfolding serialised
 serialised_query s = grind (arith, before_same, after_same, path_nil)
 
 -- the first byte of a path is encoded with the set for its place, before the rest of the path and the query
-with_query_cons : (b : ℕ) (path : List ℕ) (query : Option (List ℕ))
-    → with_query (encoded_path (b ∷ path)) query
+with_query_cons : (b : ℕ) (path : List ℕ) (query : Option (List ℕ)) → with_query (encoded_path (b ∷ path)) query
     ≡ encoded_byte (path_byte_set path) b ++ with_query (encoded_path path) query
 with_query_cons b path None = path_cons b path
 with_query_cons b path (Some query) = grind (arith, path_cons)
 
--- a text that begins with another byte is serialised as that byte, encoded with the set for its place, and the rest,
--- serialised
+-- a text that begins with another byte is serialised as that byte, encoded by its place, and the rest, serialised
 pub serialised_path : (b : ℕ) (s : List ℕ) → (b == 63) ≡ false
     → serialised (b ∷ s) ≡ encoded_byte (path_byte_set (before 63 s)) b ++ serialised s
 unfolding serialised
@@ -213,8 +199,7 @@ serialised_path b s h = grind (arith, before_other, after_other, with_query_cons
 pub serialised_recoded : (s : List ℕ) → IsBytes s → Recoded s (serialised s)
 serialised_recoded [] h = subst (λ x. Recoded [] x) (sym serialised_nil) none
 serialised_recoded (b ∷ s) h = elim (cases_Bool (b == 63)) [
-  | inl e ↦ let f : b ≡ 63 = eqb-true b 63 e in subst (λ v. Recoded (v ∷ s) (serialised (v ∷ s))) (sym f)
-      (subst (λ x. Recoded (63 ∷ s) x) (sym (serialised_query s)) (kept 63 (is_recoded in_query_set (λ b e. e) s h.1)))
+  | inl e ↦ rw (eqb-true b 63 e, serialised_query s) (kept 63 (is_recoded in_query_set (λ b e. e) s h.1))
   | inr e ↦ grind (arith, serialised_path, recoded_byte, serialised_recoded s h.1)
 ]
 
@@ -229,8 +214,7 @@ RecodedTails (Some t) (Some y) = Recoded t y
 after_written : (b : ℕ) (x : List ℕ) → after 44 (37 ∷ hex_digit (b / 16) ∷ hex_digit (b % 16) ∷ x) ≡ after 44 x
 after_written b x = grind (arith, after_other)
 
--- if x is s with some bytes of the query's set percent-encoded, so are the texts after the first comma of both, or
--- neither has a comma
+-- if x is s with some bytes encoded, so are the texts after the first comma of both, or neither has a comma
 pub recoded_tails : {s x : List ℕ} → Recoded s x → RecodedTails (after 44 s) (after 44 x)
 recoded_tails none = grind (arith, after_nil)
 recoded_tails (kept {s} {x} b r) = grind (arith, after_same, after_other, recoded_tails r)
@@ -263,8 +247,7 @@ header_cons : (b : ℕ) (path : List ℕ) (query : Option (List ℕ)) → header
 header_cons b path None = encoded_cons in_path_set b path
 header_cons b path (Some query) = with_query_cons b path (Some query)
 
--- the header text of a text that begins with another byte is that byte, encoded with the set for its place, and the
--- header text of the rest
+-- that of a text that begins with another byte is that byte, encoded by its place, and the header text of the rest
 pub header_path : (b : ℕ) (s : List ℕ) → (b == 63) ≡ false
     → header_text (b ∷ s) ≡ encoded_byte (header_byte_set (before 63 s) (after 63 s)) b ++ header_text s
 unfolding header_text
@@ -278,25 +261,14 @@ same_set [] rest (Some query) e = grind (arith, after_nil)
 same_set (c ∷ h) rest None e = grind (arith, lacks, before_other)
 same_set (c ∷ h) rest (Some query) e = grind (arith, before_same, before_other)
 
+-- the lemmas for the first byte of a header
+ruleset headers = (before_at, before_encoded, serialised_query, header_query, serialised_path, same_set, header_path)
+
 -- if h has no comma, the bytes before the first comma of the serialisation of h ++ 44 ∷ rest are the header text of h
 pub before-serialised : (h rest : List ℕ) → after 44 h ≡ None → before 44 (serialised (h ++ 44 ∷ rest)) ≡ header_text h
 before-serialised [] rest e = grind (arith, serialised_path, before_same, header_nil)
 before-serialised (b ∷ h) rest e =
-    grind (
-      arith,
-      before-serialised h rest,
-      cases_Bool,
-      eqb-true,
-      first_byte,
-      before-append,
-      before_at,
-      before_encoded,
-      serialised_query,
-      header_query,
-      serialised_path,
-      same_set,
-      header_path,
-    )
+    grind (arith, before-serialised h rest, cases_Bool, eqb-true, first_byte, before-append, headers)
 
 -- Percent-encoding a text without its tabs and newlines: byte by byte, and part by part.
 
@@ -350,28 +322,16 @@ put_more p s i room at row room' m l within r n h =
     let width = slice_index row 3 in
     let short : width ≤ 3 = grind arith in
     let one : encoded p (get_or s i 0 ∷ []) ≡ byte_encoding p (get_or s i 0) =
-    cc (written_first p (get_or s i 0) [], encoded_empty p, append-nil (byte_encoding p (get_or s i 0))) in
-    record {
-      few = omega (arith, m.few);
-      long = n;
-      wrote = cc (
-        take-take (at + width) (at + 4) room' (omega arith),
-        take-append-add (take at room) row width,
-        length-take-le at room (omega (arith, m.long)),
-        take_more s i 0 l,
-        encoded-append p (take i s) (get_or s i 0 ∷ []),
-        m.wrote,
-        r.begins,
-        one,
-      );
-    }
+    grind (arith, written_first, encoded_empty, append-nil) in
+    let len = length-take-le at room (omega (arith, m.long)) in
+    let more = take_more s i 0 l in
+    let all = encoded-append p (take i s) (get_or s i 0 ∷ []) in
+    let front = take-take (at + width) (at + 4) room' (omega arith) in
+    let seam = take-append-add (take at room) row width in
+    record { few = omega (arith, m.few); long = n; wrote = cc }
 
--- all bytes of the text are ASCII
-abbrev pub are_ascii : List ℕ → Bool
-are_ascii s = list_all (λ c. nat_lt c 128) s
-
--- a text that passes the test `are_ascii` is ASCII
-pub ascii_all : (s : List ℕ) → are_ascii s ≡ true → IsAscii s
+-- a text whose bytes are all below 128 is ASCII
+pub ascii_all : (s : List ℕ) → list_all (λ c. nat_lt c 128) s ≡ true → IsAscii s
 ascii_all [] h = IsAscii-nil
 ascii_all (c ∷ s) h = grind (arith, and_parts, ltb-true, ascii_all s)
 
@@ -384,9 +344,8 @@ written_ascii Fragment b l = grind arith
 -- with each of the sets, the encoding of a text of bytes is ASCII
 encoded_ascii : (set : EncodeSet) (s : List ℕ) → ((i : ℕ) → get_or s i 0 < 256) → IsAscii (encoded (in_set set) s)
 encoded_ascii set [] h = subst IsAscii (sym (encoded_empty (in_set set))) IsAscii-nil
-encoded_ascii set (b ∷ s) h = subst IsAscii (sym (written_first (in_set set) b s))
-    (IsAscii-append (byte_encoding (in_set set) b) (encoded (in_set set) s) (written_ascii set b (h 0))
-    (encoded_ascii set s (λ i. h (suc i))))
+encoded_ascii set (b ∷ s) h = rw (written_first (in_set set) b s)
+    (IsAscii-append _ _ (written_ascii set b (h 0)) (encoded_ascii set s (λ i. h (suc i))))
 
 -- what a text of bytes is written as is UTF-8
 pub encoded_text : (set : EncodeSet) (s text : List ℕ) → ((i : ℕ) → get_or s i 0 < 256) → text ≡ encoded (in_set set) s

@@ -1,10 +1,9 @@
 -- Texts of bytes: cut at a byte, and without tabs and newlines.
-use Rattle.std.proofs.Common.{◌≡◌, ℕ, suc, ◌<◌, true, false, List, [], ◌∷◌, ◌++◌, length, get_or, Option}
-use Rattle.std.proofs.Common.{append-nil, None, Some, refl, ap, ◌∙◌, arith, eqb-true, eq-eqb}
-use Rattle.std.specs.Prelude.{◌==◌}
+use Rattle.std.{proofs.Common.{Some, refl, ap, ◌∙◌, arith, eqb-true, eq-eqb, ◌==◌}, specs.Option.{option_map}}
+use Rattle.std.proofs.Common.{◌≡◌, ℕ, suc, ◌<◌, true, false, List, [], ◌∷◌, ◌++◌, length, get_or, append-nil, None}
 use Rattle.std.proofs.lemmas.Bool.{cases_Bool, cond-true, cond-false}
-use Rattle.std.specs.Option.{option_map}
 use Rattle.data_url.specs.Url.{before, after, without_tabs_and_newlines, fragment, is_tab_or_newline}
+use Rattle.data_url.proofs.runs.Runs.{none_or_some}
 
 -- a text that begins with c has no bytes before its first c
 pub before_same : (c : ℕ) (s : List ℕ) → before c (c ∷ s) ≡ []
@@ -80,8 +79,7 @@ pub record IsCut (c : ℕ) (s rest : List ℕ) : Type 0 where
 -- if rest is the text after the first c of s, then s is the bytes before that c, then c, then rest
 pub is_cut : (c : ℕ) (s rest : List ℕ) → after c s ≡ Some rest → IsCut c s rest
 is_cut c [] rest h = grind (arith, after_nil)
-is_cut c (b ∷ s) rest h =
-    grind (arith, is_cut c s rest, cases_Bool, eqb-true, first_byte)
+is_cut c (b ∷ s) rest h = grind (arith, is_cut c s rest, cases_Bool, eqb-true, first_byte)
 
 -- if c is at no index of the text, the text has no c
 pub after_none : (c : ℕ) (s : List ℕ) → ((k : ℕ) → k < length s → (get_or s k 0 == c) ≡ false) → after c s ≡ None
@@ -124,20 +122,13 @@ pub dropped_around : (c : ℕ) → is_tab_or_newline c ≡ false → (a s : List
     → without_tabs_and_newlines (a ++ c ∷ s) ≡ without_tabs_and_newlines a ++ c ∷ without_tabs_and_newlines s
 dropped_around c k a s = grind (arith, without_tabs_and_newlines-append, dropped_keeps)
 
--- if o is what follows the first '#', the fragment of the text without tabs and newlines is o without them
-fragment_cases : (tail : List ℕ) (o : Option (List ℕ)) → after 35 tail ≡ o
-    → fragment (without_tabs_and_newlines tail) ≡ option_map without_tabs_and_newlines o
-unfolding fragment
-fragment_cases tail None h = after-dropped_none 35 refl tail h
-fragment_cases tail (Some rest) h =
-    let cut = is_cut 35 tail rest h in
-    cc (
-      dropped_around 35 refl (before 35 tail) rest,
-      after_at 35 (without_tabs_and_newlines (before 35 tail))
-          (without_tabs_and_newlines rest) (after-dropped_none 35 refl (before 35 tail) cut.lacks),
-    )
+-- if c is not a tab or newline, what follows the first c does so after tabs and newlines are dropped
+pub after_dropped : (c : ℕ) → is_tab_or_newline c ≡ false → (s rest : List ℕ) → after c s ≡ Some rest
+    → after c (without_tabs_and_newlines s) ≡ Some (without_tabs_and_newlines rest)
+after_dropped c k s rest h = grind (arith, is_cut c s rest h, dropped_around, after_at, after-dropped_none)
 
 -- tabs and newlines can be dropped before the fragment is cut off, or after
 pub fragment_dropped : (tail : List ℕ)
     → fragment (without_tabs_and_newlines tail) ≡ option_map without_tabs_and_newlines (after 35 tail)
-fragment_dropped tail = fragment_cases tail (after 35 tail) refl
+unfolding fragment
+fragment_dropped tail = grind (arith, none_or_some (after 35 tail), after_dropped 35 refl tail, after-dropped_none)

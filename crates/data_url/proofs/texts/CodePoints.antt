@@ -1,21 +1,16 @@
 -- Texts of code points, cut at the first code point that does not pass, and where their bytes can be cut.
-use Rattle.std.proofs.Common.{◌≡◌, ℕ, ◌≤◌, ◌<◌, ◌+◌, ◌-◌, Bool, true, false, cond, List, [], ◌∷◌, ◌++◌, length, take}
+use Rattle.std.{proofs.Common.{append-nil, ◌==◌, take-append-drop, length-append}, specs.List.{prefix_len, suffix_len}}
 use Rattle.std.proofs.Common.{drop, refl, one-add, subst, sym, ap, ◌∙◌, arith, zero, suc, get_or, encode_utf8_all}
-use Rattle.std.proofs.Common.{append-nil, ◌==◌}
-use Rattle.std.specs.List.{prefix_len, suffix_len}
-use Rattle.std.specs.Str.{chars, IsCharBoundary, IsUtf8, all_scalars, IsAscii}
-use lib.Utf8.{encode}
-use mathlib.Core.List.{reverse_aux}
-use Rattle.std.proofs.Math.Seq.{take-append_seam, drop-append_seam}
-use Rattle.std.proofs.lemmas.List.{take-append-drop, length-append}
+use Rattle.std.proofs.Common.{◌≡◌, ℕ, ◌≤◌, ◌<◌, ◌+◌, ◌-◌, Bool, true, false, cond, List, [], ◌∷◌, ◌++◌, length, take}
+use Rattle.std.{proofs.Math.Seq.{take-append_seam, drop-append_seam}, proofs.lemmas.List.Sums.{suffix_len-le-length}}
+use Rattle.std.{proofs.lemmas.Str.Ascii.{IsAscii-nil}, specs.Str.{chars, IsCharBoundary, IsUtf8, all_scalars, IsAscii}}
+use Rattle.std.proofs.lemmas.Str.{IsUtf8-take, chars-append}
 use Rattle.std.proofs.lemmas.Str.{chars-encodes, encodes-append, encodes-chars, IsCharBoundary-at_seam, scalars-chars}
 use Rattle.std.proofs.lemmas.Str.{encode_ascii, chars-nil, length-le-encodes, chars-IsAscii, IsUtf8-from_ascii}
-use Rattle.std.proofs.lemmas.Str.{IsUtf8-take, chars-append}
-use Rattle.std.proofs.lemmas.Str.Ascii.{IsAscii-nil}
-use Rattle.data_url.specs.Mime.{DoesNotBegin, DoesNotEnd, Every}
-use Rattle.data_url.specs.Steps.Parsing.{IsTrimmedEnd, front_of}
-use Rattle.std.proofs.lemmas.List.Sums.{suffix_len-le-length}
+use Rattle.data_url.specs.{Mime.{DoesNotBegin, DoesNotEnd, Every}, Steps.Parsing.{IsTrimmedEnd, front_of}}
 use Rattle.data_url.specs.Url.{is_c0_control_or_space, without_end, without_front}
+use lib.Utf8.{encode}
+use mathlib.Core.List.{reverse_aux}
 
 -- if all of a passes, and b does not begin with a code point that passes, a is the longest prefix of a ++ b that passes
 pub front_len : (p : ℕ → Bool) (a b : List ℕ) → Every p a → DoesNotBegin p b → prefix_len p (a ++ b) ≡ length a
@@ -52,8 +47,7 @@ front_further p [] (suc n) l h = absurd (omega arith)
 front_further p (b ∷ bytes) (suc n) l h =
     grind (arith, h 0 (omega arith), front_further p bytes n (omega arith) (λ k m. h (suc k) (omega arith)))
 
--- if each code point of `back` passes, the longest prefix that passes is longer by `back` after `back` is put before a
--- text in reverse
+-- if each code point of `back` passes, putting it before a text in reverse makes the prefix that passes longer by it
 onto_len : (p : ℕ → Bool) (back acc : List ℕ) → Every p back
     → prefix_len p (reverse_aux back acc) ≡ length back + prefix_len p acc
 onto_len p [] acc h = omega arith
@@ -65,21 +59,15 @@ end_onto : (p : ℕ → Bool) (c : ℕ) (t back acc : List ℕ) → Every p back
 end_onto p c [] back acc h e = grind (arith, onto_len p back (c ∷ acc) h)
 end_onto p c (d ∷ t) back acc h e = end_onto p d t back (c ∷ acc) h e
 
--- the longest suffix of t ++ back that passes is `back`, if `back` passes and t does not end with a code point that
--- passes
+-- the longest suffix of t ++ back that passes is `back`, if `back` passes and t does not end with one that passes
 end_len : (p : ℕ → Bool) (t back : List ℕ) → Every p back → DoesNotEnd p t → suffix_len p (t ++ back) ≡ length back
 end_len p [] back h e = grind (arith, onto_len p back [] h)
 end_len p (c ∷ t) back h e = end_onto p c t back [] h e
 
 -- if t is s without its longest suffix that passes, t is `without_end p s`
 pub trimmed_end_is : (p : ℕ → Bool) (s t : List ℕ) → IsTrimmedEnd p s t → t ≡ without_end p s
-trimmed_end_is p s t h = grind (
-  arith,
-  length-append t h.back,
-  end_len p t h.back h.at_back h.ends,
-  take-append_seam t
-      h.back,
-)
+trimmed_end_is p s t h =
+    grind (arith, length-append t h.back, end_len p t h.back h.at_back h.ends, take-append_seam t h.back)
 
 -- a text that does not end with a code point that passes has no suffix that passes
 pub end_stays : (p : ℕ → Bool) (t : List ℕ) → DoesNotEnd p t → without_end p t ≡ t
@@ -99,12 +87,7 @@ end_before p c s [] h = elim (p c) as (λ v. p c ≡ v → (t : List ℕ) × IsT
 ] refl
 end_before p c s (d ∷ t) h = (
   c ∷ d ∷ t,
-  record {
-    back = h.back;
-    joined = ap (λ x. c ∷ x) h.joined;
-    at_back = h.at_back;
-    ends = h.ends;
-  },
+  record { back = h.back; joined = ap (λ x. c ∷ x) h.joined; at_back = h.at_back; ends = h.ends },
 )
 
 -- each text is a text that does not end with a code point that passes, and then a text that passes
@@ -151,7 +134,7 @@ cut_into bs xs ys n u e l =
     let k = scalars_parts xs ys (ap all_scalars (sym e) ∙ scalars-chars bs u) in
     let a = encode_utf8_all xs in
     let b = encode_utf8_all ys in
-    let whole : bs ≡ a ++ b = sym (encodes-chars bs u) ∙ ap encode_utf8_all e ∙ encodes-append xs ys in
+    let whole : bs ≡ a ++ b = cc (encodes-chars bs u, encodes-append xs ys) in
     rw (l, whole) (record {
       boundary = IsCharBoundary-at_seam (a ++ b) a b refl (ys, (k.1, refl));
       front = ap chars (take-append_seam a b) ∙ chars-encodes xs k.0;
@@ -161,8 +144,7 @@ cut_into bs xs ys n u e l =
 -- a UTF-8 text can be cut after its longest prefix that passes
 pub cut_front : (p : ℕ → Bool) → IsSteady p → (bs : List ℕ) → IsUtf8 bs
     → IsCutInto bs (prefix_len p bs) (front_of p (chars bs)) (without_front p (chars bs))
-cut_front p s bs u = cut_into bs (front_of p (chars bs)) (without_front p (chars bs)) (prefix_len p bs) u
-    (sym (take-append-drop (prefix_len p (chars bs)) (chars bs)))
+cut_front p s bs u = cut_into bs _ _ (prefix_len p bs) u (sym (take-append-drop (prefix_len p (chars bs)) (chars bs)))
     (ap (prefix_len p) (sym (encodes-chars bs u)) ∙ front_encodes p s (chars bs))
 
 -- the parts of a UTF-8 text that is cut there, as code points
@@ -231,16 +213,12 @@ module _ (p : ℕ → Bool) (steady : IsSteady p) (other : p 128 ≡ false) wher
       rw n (record { boundary = boundary; trimmed = trimmed; without = trimmed_end_is p _ _ trimmed })
 
 -- no C0 control or space is beyond ASCII
-controls_steady : IsSteady is_c0_control_or_space
+pub controls_steady : IsSteady is_c0_control_or_space
 controls_steady c l = grind arith
-
--- a UTF-8 text can be cut after the C0 controls and spaces at its front
-pub controls_front : (bs : List ℕ) → IsUtf8 bs → IsCharBoundary bs (prefix_len is_c0_control_or_space bs)
-controls_front bs u = grind (arith, cut_front, controls_steady)
 
 -- a UTF-8 text can be cut before those at its end
 pub controls_end : (bs : List ℕ) → IsUtf8 bs → IsCharBoundary bs (length bs - suffix_len is_c0_control_or_space bs)
 controls_end bs u = (cut_end is_c0_control_or_space controls_steady refl bs u).boundary
 
 -- what `trim` needs of its cuts
-pub ruleset controls = (controls_front, controls_end, suffix_len-le-length)
+pub ruleset controls = (cut_front, controls_steady, controls_end, suffix_len-le-length)

@@ -24,7 +24,7 @@ pub(super) struct KeptParameters {
 
 impl KeptParameters {
     /// Whether one of the first pairs has the name, in any ASCII case.
-    #[tactic(auto, using(crate::proofs::mime::FirstNames::some_byte))]
+    #[tactic(auto, using(crate::proofs::mime::FirstNames::key_is, crate::proofs::mime::FirstNames::some_byte))]
     pub(super) fn is_among_first(&self, name: &str) -> bool
         requires indexed { IsIndexed self.now }
         requires token { IsTrue (is_token_text (chars name.now)) }
@@ -42,6 +42,7 @@ impl KeptParameters {
     }
 
     /// Adds a pair whose name none of the first ones has, unless a later one has it.
+    #[tactic(auto, using(crate::proofs::mime::FirstNames::not_pushed))]
     pub(super) fn push(&mut self, name: String, value: String) -> Result<(), AllocError>
         requires indexed { IsIndexed self.old }
         requires lower { IsTrue (is_lowercase_name (code_points name)) }

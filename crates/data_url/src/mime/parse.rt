@@ -184,6 +184,7 @@ pub(super) fn read_parameters(
 }
 
 /// Adds the pair of a parameter, if it is valid and its name is not there yet.
+#[tactic(auto, using(crate::proofs::mime::FirstNames::lowercase_name))]
 fn keep(
     alloc: Global,
     kept: &mut KeptParameters,

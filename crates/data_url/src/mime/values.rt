@@ -40,6 +40,7 @@ impl<'a> Value<'a> {
 }
 
 /// Returns the value of a quoted string: without the `\` before a code point.
+#[tactic(auto, using(crate::proofs::mime::Parsing::unescape_starts))]
 fn unescaped(alloc: Global, quoted: &str) -> Result<String, AllocError>
     ensures { IfOk result (λ text. code_points text ≡ unescaped false (chars quoted.now)) }
 {

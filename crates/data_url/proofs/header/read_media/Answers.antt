@@ -1,15 +1,8 @@
-use Rattle.std.proofs.Common.{arith, subst}
-use Rattle.std.specs.Str.{chars}
-use Rattle.std.proofs.lemmas.Result.{IfOk-weaker}
-use Rattle.data_url.specs.Fetch.{with_plain}
-use Rattle.data_url.specs.Mime.{HasNoRecord}
-use Rattle.data_url.specs.MimeType.{record_of}
+use Rattle.std.{proofs.Common.{arith, subst}, proofs.lemmas.Result.{IfOk-weaker}, specs.Str.{chars}}
+use Rattle.data_url.specs.{Fetch.{with_plain}, Mime.{HasNoRecord}, MimeType.{record_of}}
+use Rattle.data_url.proofs.header.Stages.{default_for, parts_for, plain_added, plain_stays}
 use Rattle.data_url.proofs.mime.FirstNames.{no_record}
-use Rattle.data_url.proofs.header.Stages.{begins_at, chars_printable, default_for, parts_for, plain_added, plain_stays}
 use Rattle.data_url.proofs.header.read_media.Goals as goal
-
-pub plain_head-requires : goal.plain_head-requires
-plain_head-requires c = grind (arith, chars_printable, begins_at)
 
 pub returns-then-starts_with : goal.returns-then-starts_with
 returns-then-starts_with c =

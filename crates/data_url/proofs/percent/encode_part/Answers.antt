@@ -1,5 +1,4 @@
-use Rattle.std.proofs.Common.{arith}
-use Rattle.std.proofs.lemmas.List.{take_all}
+use Rattle.std.proofs.Common.{arith, take_all}
 use Rattle.data_url.proofs.percent.Encoding.{encoded_text, put_more}
 use Rattle.data_url.proofs.percent.encode_part.Goals as goal
 

@@ -1,6 +1,5 @@
 -- The bytes before the rest are written.
-use Rattle.std.proofs.Common.{◌≡◌, ◌++◌}
-use Rattle.std.specs.Prelude.{length, string_bytes}
+use Rattle.std.proofs.Common.{◌≡◌, ◌++◌, length, string_bytes}
 use Rattle.data_url.specs.Steps.Sets.{in_set}
 use Rattle.data_url.proofs.percent.Encoding.{encoded}
 use Rattle.data_url.proofs.percent.push_encoded.Given as goal

@@ -1,9 +1,8 @@
-use Rattle.std.proofs.Common.{ℕ, ◌<◌, List, length, ap, ◌∙◌, subst, sym}
-use Rattle.std.proofs.lemmas.List.{length-map}
+use Rattle.std.{proofs.Common.{ℕ, ◌<◌, List, length, ap, ◌∙◌, subst, sym}, proofs.lemmas.List.{length-map}}
 use Rattle.data_url.specs.Steps.Lanes.{value_of}
 use Rattle.data_url.proofs.forgiving_base64.Vectors.{packed_is, values_below}
-use Rattle.data_url.proofs.forgiving_base64.alphabet.decode_row.Goals as goal
 use lib.Lanes.{Each1}
+use Rattle.data_url.proofs.forgiving_base64.alphabet.decode_row.Goals as goal
 
 pub numbers_of-requires : goal.numbers_of-requires
 numbers_of-requires c =

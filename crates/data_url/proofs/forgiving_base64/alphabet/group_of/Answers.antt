@@ -1,5 +1,4 @@
-use Rattle.std.proofs.Common.{arith}
-use Rattle.std.proofs.lemmas.Bool.{ltb-true}
+use Rattle.std.{proofs.Common.{arith}, proofs.lemmas.Bool.{ltb-true}}
 use Rattle.data_url.proofs.forgiving_base64.Vectors.{entry_symbol, symbol_is}
 use Rattle.data_url.proofs.forgiving_base64.alphabet.group_of.Goals as goal
 

@@ -1,6 +1,5 @@
-use Rattle.std.proofs.Common.{◌/◌, ◌^◌, bit_and, get_or, arith}
+use Rattle.std.{proofs.Common.{◌/◌, ◌^◌, bit_and, get_or, arith}, proofs.lemmas.Simd.{zip2_splat}}
 use Rattle.std.proofs.lemmas.Nat.{and_le_r}
-use Rattle.std.proofs.lemmas.Simd.{zip2_splat}
 use Rattle.data_url.specs.declared.forgiving_base64.alphabet.TheConstants.{HIGH_HALVES, LOW_HALVES}
 use Rattle.data_url.proofs.forgiving_base64.Vectors.{joined, looked_up, places_ok}
 use Rattle.data_url.proofs.forgiving_base64.alphabet.marks_of.Goals as goal

@@ -1,13 +1,9 @@
+use Rattle.std.{proofs.Common.{refl, sym, map-id}, proofs.Math.Dec.{ltb}, proofs.lemmas.Bool.{agree_below_at, ltb-true}}
 use Rattle.std.proofs.Common.{◌≡◌, ◌+◌, ◌/◌, ◌%◌, ◌^◌, ℕ, List, map, ◌<◌, bit_and, cond, eqb, get_or, true, ◌∙◌, w8}
-use Rattle.std.proofs.Common.{refl, sym}
-use Rattle.std.proofs.lemmas.List.{map-id}
-use Rattle.std.proofs.lemmas.Bool.{agree_below_at, ltb-true}
 use Rattle.std.proofs.lemmas.Simd.{splat_is_map, tops_compared, zip2_splat}
-use Rattle.std.proofs.Math.Dec.{ltb}
-use lib.Lanes.{zip2}
-use Rattle.data_url.specs.Steps.Lanes.{offset_row}
-use Rattle.data_url.specs.declared.forgiving_base64.alphabet.TheConstants.{OFFSETS}
+use Rattle.data_url.specs.{Steps.Lanes.{offset_row}, declared.forgiving_base64.alphabet.TheConstants.{OFFSETS}}
 use Rattle.data_url.proofs.forgiving_base64.Vectors.{chosen, joined, looked_up, places_ok}
+use lib.Lanes.{zip2}
 use Rattle.data_url.proofs.forgiving_base64.alphabet.values_of.Goals as goal
 
 -- the row of each byte in the table of offsets is below 16

@@ -1,5 +1,4 @@
-use Rattle.std.proofs.Common.{◌≡◌, ◌*◌, ◌-◌, ◌≤◌, drop, take, true}
-use Rattle.std.specs.List.{list_all}
+use Rattle.std.{proofs.Common.{◌≡◌, ◌*◌, ◌-◌, ◌≤◌, drop, take, true}, specs.List.{list_all}}
 use Rattle.data_url.specs.Base64.{is_symbol}
 use Rattle.data_url.proofs.forgiving_base64.Vectors.{others_mask}
 use Rattle.data_url.proofs.forgiving_base64.blocks.groups_ahead.Given as goal

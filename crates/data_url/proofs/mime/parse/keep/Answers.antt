@@ -1,15 +1,9 @@
-use Rattle.std.proofs.Common.{◌++◌, ap, inl, inr, map, sym, ◌∙◌}
-use Rattle.std.specs.Char.{to_ascii_lowercase}
-use Rattle.std.proofs.lemmas.Result.{on_ok_weaker}
-use Rattle.std.specs.Option.{option_map}
-use Rattle.std.specs.Str.{chars}
-use Rattle.data_url.specs.Mime.{is_lowercase_name}
-use Rattle.data_url.specs.MimeType.{code_points}
-use Rattle.data_url.specs.Steps.Kept.{pairs_of}
-use Rattle.data_url.specs.Steps.Parsing.{unless_named, value_of}
-use Rattle.data_url.proofs.mime.FirstNames.{not_kept, lowercase_name, new_pair, none_added, token_text_lower}
-use Rattle.data_url.proofs.mime.parse.keep.Goals.{then-not-is_token_text-via-then-not-is_token_text}
+use Rattle.std.{proofs.Common.{◌++◌, ap, inl, inr, map, sym, ◌∙◌}, proofs.lemmas.Result.{on_ok_weaker}}
+use Rattle.std.{specs.Char.{to_ascii_lowercase}, specs.Option.{option_map}, specs.Str.{chars}}
+use Rattle.data_url.specs.{MimeType.{code_points}, Steps.Kept.{pairs_of}, Steps.Parsing.{unless_named, value_of}}
+use Rattle.data_url.proofs.mime.FirstNames.{not_kept, new_pair, none_added, token_text_lower}
 use Rattle.data_url.proofs.mime.parse.keep.Goals.{then-not-is_token_text-via-else-not-is_token_text+then-is_among_first}
+use Rattle.data_url.proofs.mime.parse.keep.Goals.{then-not-is_token_text-via-then-not-is_token_text}
 use Rattle.data_url.proofs.mime.parse.keep.Goals as goal
 
 pub returns-then-not-is_token_text-clause-pairs : goal.returns-then-not-is_token_text-clause-pairs
@@ -22,10 +16,6 @@ returns-then-not-is_token_text-clause-pairs c =
       | then-not-is_token_text-via-else-not-is_token_text+then-is_among_first w ↦
           inr (sym w.is_among_first.ensures ∙ w.if-is_among_first.true)
     ]))
-
-pub push-requires-clause-lower : goal.push-requires-clause-lower
-push-requires-clause-lower c = ap is_lowercase_name c.in_ok-lowercased.ensures
-    ∙ lowercase_name (chars c.args.parameter.now.name.now) (sym c.is_token_text.ensures ∙ c.if-not-is_token_text.false)
 
 pub returns-clause-pairs : goal.returns-clause-pairs
 returns-clause-pairs c =

@@ -1,7 +1,5 @@
-use Rattle.std.proofs.Common.{◌≡◌, ◌==◌, arith, false, length}
-use Rattle.data_url.proofs.texts.CodePoints.{same_empty}
-use Rattle.std.specs.Str.{chars}
-use Rattle.data_url.proofs.mime.Parsing.{no_parameters, no_slash, no_subtype}
+use Rattle.std.{proofs.Common.{◌≡◌, ◌==◌, arith, false, length}, specs.Str.{chars}}
+use Rattle.data_url.proofs.{mime.Parsing.{no_parameters, no_slash, no_subtype}, texts.CodePoints.{same_empty}}
 use Rattle.data_url.proofs.mime.parse.read_head.Goals as goal
 
 pub returns-in_err-after_mark : goal.returns-in_err-after_mark
@@ -9,9 +7,8 @@ returns-in_err-after_mark c =
     rw c.from_residual-in_err-after_mark.ensures (no_slash c.in_ok-type_.ensures (cc) c.in_err-after_mark.ensures)
 
 pub returns-in_err-subtype : goal.returns-in_err-subtype
-returns-in_err-subtype c =
-    rw c.from_residual-in_err-subtype.ensures (no_subtype c.in_ok-type_.ensures (cc) _ c.in_ok-after_mark.ensures
-    c.in_err-subtype.ensures)
+returns-in_err-subtype c = rw c.from_residual-in_err-subtype.ensures (no_subtype c.in_ok-type_.ensures
+    (cc) _ c.in_ok-after_mark.ensures c.in_err-subtype.ensures)
 
 pub returns-in_err-after_mark-2 : goal.returns-in_err-after_mark-2
 returns-in_err-after_mark-2 c =

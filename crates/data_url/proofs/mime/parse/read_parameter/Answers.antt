@@ -1,9 +1,6 @@
-use Rattle.std.proofs.Common.{arith, refl, ◌∙◌}
-use Rattle.std.specs.Str.{chars}
+use Rattle.std.{proofs.Common.{arith, refl, ◌∙◌}, specs.Str.{chars}}
 use Rattle.data_url.specs.Steps.Parsing.{in_name}
-use Rattle.data_url.proofs.mime.Parsing.{parameter_by}
-use Rattle.data_url.proofs.mime.TokenTexts.{names_steady}
-use Rattle.data_url.proofs.texts.CodePoints.{cut_front}
+use Rattle.data_url.proofs.{mime.Parsing.{parameter_by}, mime.TokenTexts.{names_steady}, texts.CodePoints.{cut_front}}
 use Rattle.data_url.proofs.mime.parse.read_parameter.Goals as goal
 
 pub split_at-requires : goal.split_at-requires

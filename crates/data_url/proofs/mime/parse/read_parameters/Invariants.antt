@@ -1,10 +1,9 @@
 -- The pairs so far, with those that are kept of the rest; the rest of the text gets shorter.
-use Rattle.std.proofs.Common.{length}
-use denote.Text.{Utf8}
-use denote.Shadow.{shadow}
-use Rattle.std.specs.Str.{chars}
+use Rattle.std.{proofs.Common.{length}, specs.Str.{chars}}
 use Rattle.data_url.specs.Steps.Kept.{IsIndexed, pairs_of}
 use Rattle.data_url.proofs.mime.FirstNames.{KeepsOn}
+use denote.Shadow.{shadow}
+use denote.Text.{Utf8}
 use Rattle.data_url.proofs.mime.parse.read_parameters.Given as goal
 
 abbrev pub invariant-loop-after : goal.invariant-loop-after

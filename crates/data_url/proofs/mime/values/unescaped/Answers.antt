@@ -1,9 +1,7 @@
-use Rattle.std.proofs.Common.{ap, string_bytes, ◌∙◌}
+use Rattle.std.{proofs.Common.{ap, string_bytes, ◌∙◌}, proofs.lemmas.Str.{IsUtf8-past_char, IsUtf8-string_bytes}}
 use Rattle.std.proofs.lemmas.Result.{IfOk-weaker}
-use Rattle.std.proofs.lemmas.Str.{IsUtf8-past_char, IsUtf8-string_bytes}
-use Rattle.std.specs.Str.Iter.{chars_rest}
 use Rattle.data_url.specs.MimeType.{code_points}
-use Rattle.data_url.proofs.mime.Parsing.{copied, unescape_ends, unescape_pushes, unescape_skips, unescape_starts}
+use Rattle.data_url.proofs.mime.Parsing.{copied, unescape_ends, unescape_pushes, unescape_skips}
 use Rattle.data_url.proofs.mime.values.unescaped.Goals.{then-escaped+in_ok-push-2, else-escaped}
 use Rattle.data_url.proofs.mime.values.unescaped.Goals as goal
 
@@ -11,11 +9,6 @@ pub returns-then-long_span-quoted : goal.returns-then-long_span-quoted
 returns-then-long_span-quoted c =
     IfOk-weaker c.from_str.result _ _ (λ text h. copied (string_bytes text) c.args.quoted.now _ _ c.utf8.quoted
     c.as_bytes.ensures.value c.long_span.ensures.front c.if-long_span-quoted.true h) c.from_str.ensures.ok
-
-pub loop-c-init : goal.loop-c-init
-loop-c-init c =
-    let r = ap chars_rest c.into_iter-c-iterator.ensures.into_iter_gives ∙ c.chars-c-items.ensures.rest in
-    (rw r c.utf8.quoted, unescape_starts (string_bytes c.in_ok-value.value) _ _ c.in_ok-value.ensures.bytes r)
 
 pub loop-c-preserved-then-not-escaped : goal.loop-c-preserved-then-not-escaped
 loop-c-preserved-then-not-escaped c = (

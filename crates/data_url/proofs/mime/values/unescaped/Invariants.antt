@@ -1,9 +1,6 @@
 -- What was written and the value of the rest are together the whole value.
-use Rattle.std.proofs.Common.{◌≡◌, ◌++◌, false}
-use Rattle.std.specs.Str.{IsUtf8, chars}
-use Rattle.std.specs.Str.Iter.{chars_rest}
-use Rattle.data_url.specs.MimeType.{code_points}
-use Rattle.data_url.specs.Steps.Parsing.{unescaped}
+use Rattle.std.{proofs.Common.{◌≡◌, ◌++◌, false}, specs.Str.{IsUtf8, chars}, specs.Str.Iter.{chars_rest}}
+use Rattle.data_url.specs.{MimeType.{code_points}, Steps.Parsing.{unescaped}}
 use Rattle.data_url.proofs.mime.values.unescaped.Given as goal
 
 abbrev pub invariant-loop-c : goal.invariant-loop-c

@@ -1,11 +1,9 @@
 use Rattle.std.proofs.Common.{[], ◌+◌, ◌∙◌, append-nil, ap, arith, drop, length, length-drop, length-take-le, sym, take}
-use Rattle.std.proofs.lemmas.List.{take-append-drop, take_all}
-use Rattle.std.proofs.lemmas.Result.{err_from_is_err_and}
+use Rattle.std.{proofs.Common.{take-append-drop, take_all}, proofs.lemmas.Result.{err_from_is_err_and}}
 use Rattle.std.specs.Fn.{CalledAt}
-use Rattle.data_url.specs.Decoder.{state_of}
-use Rattle.data_url.specs.Steps.Groups.{held_bytes}
-use Rattle.data_url.proofs.forgiving_base64.Steps.{feeds_stop}
+use Rattle.data_url.specs.{Decoder.{state_of}, Steps.Groups.{held_bytes}}
 use Rattle.data_url.proofs.forgiving_base64.Holding.{byte_at, held_len, reads_fault, reads_flushed, reads_gained}
+use Rattle.data_url.proofs.forgiving_base64.Steps.{feeds_stop}
 use Rattle.data_url.proofs.forgiving_base64.decode.Decoder.feed.Goals as goal
 
 pub returns-in_err-flush-in-Err-clause-fed : goal.returns-in_err-flush-in-Err-clause-fed

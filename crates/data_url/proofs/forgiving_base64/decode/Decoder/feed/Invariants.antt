@@ -1,8 +1,5 @@
-use Rattle.std.proofs.Common.{◌-◌, ◌<◌, ◌≤◌, length, take}
-use Rattle.std.specs.Fn.{CalledAt, always_mut}
-use Rattle.data_url.specs.Decoder.{state_of}
-use Rattle.data_url.specs.Steps.Groups.{held_bytes}
-use Rattle.data_url.specs.Steps.Holding.{Reads}
+use Rattle.std.{proofs.Common.{◌-◌, ◌<◌, ◌≤◌, length, take}, specs.Fn.{CalledAt, always_mut}}
+use Rattle.data_url.specs.{Decoder.{state_of}, Steps.Groups.{held_bytes}, Steps.Holding.{Reads}}
 use Rattle.data_url.proofs.forgiving_base64.decode.Decoder.feed.Given as goal
 
 -- the text read so far was decoded; the bytes that the closure was not called with are held

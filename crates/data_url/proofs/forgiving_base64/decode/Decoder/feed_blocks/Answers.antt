@@ -1,9 +1,7 @@
-use Rattle.std.proofs.Common.{[], append-nil, sym, ◌∙◌, ◌+◌, arith}
-use Rattle.std.proofs.lemmas.Result.{err_from_is_err_and}
+use Rattle.std.{proofs.Common.{[], append-nil, sym, ◌∙◌, ◌+◌, arith}, proofs.lemmas.Result.{err_from_is_err_and}}
 use Rattle.std.specs.Fn.{CalledAt}
-use Rattle.data_url.proofs.forgiving_base64.Steps.{feeds_stop, sound}
 use Rattle.data_url.proofs.forgiving_base64.Holding.{block_reads, called_between, reads_called, reads_none}
-use Rattle.data_url.proofs.forgiving_base64.Holding.{reads_refused}
+use Rattle.data_url.proofs.{forgiving_base64.Holding.{reads_refused}, forgiving_base64.Steps.{feeds_stop, sound}}
 use Rattle.data_url.proofs.forgiving_base64.decode.Decoder.feed_blocks.Goals as goal
 
 pub returns-then-not-is_between_groups-clause-fed : goal.returns-then-not-is_between_groups-clause-fed

@@ -1,7 +1,5 @@
-use Rattle.std.proofs.Common.{◌-◌, ◌≤◌, [], length, take}
-use Rattle.std.specs.Fn.{CalledAt, always_mut}
-use Rattle.data_url.specs.Decoder.{state_of}
-use Rattle.data_url.specs.Steps.Holding.{IsBetweenGroups, Reads}
+use Rattle.std.{proofs.Common.{◌-◌, ◌≤◌, [], length, take}, specs.Fn.{CalledAt, always_mut}}
+use Rattle.data_url.specs.{Decoder.{state_of}, Steps.Holding.{IsBetweenGroups, Reads}}
 use Rattle.data_url.proofs.forgiving_base64.decode.Decoder.feed_blocks.Given as goal
 
 -- the closure was called with the bytes of all groups that were read

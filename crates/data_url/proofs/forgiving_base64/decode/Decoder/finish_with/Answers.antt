@@ -1,13 +1,12 @@
-use Rattle.std.proofs.Common.{ap, arith, inl, inr, length-take, sym, take, ◌∙◌}
-use Rattle.std.specs.Fn.{CalledAt}
+use Rattle.std.{proofs.Common.{ap, arith, inl, inr, length-take, sym, take, ◌∙◌}, specs.Fn.{CalledAt}}
 use Rattle.data_url.specs.Decoder.{state_of}
 use Rattle.data_url.proofs.forgiving_base64.Padding.{every_list_all}
 use Rattle.data_url.proofs.forgiving_base64.Steps.{decoded_three, decoded_two, finishes_called, finishes_nothing}
 use Rattle.data_url.proofs.forgiving_base64.Steps.{finishes_refused, kind_left, valid_ends, valid_left}
+use Rattle.data_url.proofs.forgiving_base64.decode.Decoder.finish_with.Goals.{else-padding-gt0}
 use Rattle.data_url.proofs.forgiving_base64.decode.Decoder.finish_with.Goals.{in-1, in-2, in-3, in_default}
 use Rattle.data_url.proofs.forgiving_base64.decode.Decoder.finish_with.Goals.{in_default-2}
 use Rattle.data_url.proofs.forgiving_base64.decode.Decoder.finish_with.Goals.{then-padding-gt0+else-pending-padding-ne4}
-use Rattle.data_url.proofs.forgiving_base64.decode.Decoder.finish_with.Goals.{else-padding-gt0}
 use Rattle.data_url.proofs.forgiving_base64.decode.Decoder.finish_with.Goals as goal
 
 pub returns-clause-finished : goal.returns-clause-finished

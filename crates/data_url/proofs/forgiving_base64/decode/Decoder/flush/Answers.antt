@@ -1,6 +1,5 @@
 use Rattle.std.proofs.Common.{◌++◌, ◌-◌, arith, drop, length-append, length-drop, length-take-le, take}
-use Rattle.std.proofs.lemmas.Result.{err_from_is_err_and}
-use Rattle.std.specs.Fn.{CalledAt}
+use Rattle.std.{proofs.lemmas.Result.{err_from_is_err_and}, specs.Fn.{CalledAt}}
 use Rattle.data_url.proofs.forgiving_base64.Holding.{held_cut, reads_called, reads_refused}
 use Rattle.data_url.proofs.forgiving_base64.decode.Decoder.flush.Goals as goal
 

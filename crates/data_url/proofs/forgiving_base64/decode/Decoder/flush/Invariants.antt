@@ -1,7 +1,5 @@
-use Rattle.std.proofs.Common.{◌-◌, ◌%◌, ◌++◌, ◌≡◌, ◌≤◌, List, drop, false, length, ℕ}
-use Rattle.std.specs.Fn.{CalledAt, always_mut}
-use Rattle.data_url.specs.Decoder.{state_of}
-use Rattle.data_url.specs.Steps.Holding.{Reads}
+use Rattle.std.{proofs.Common.{◌-◌, ◌%◌, ◌++◌, ◌≡◌, ◌≤◌, List, drop, false, length, ℕ}, specs.Fn.{CalledAt, always_mut}}
+use Rattle.data_url.specs.{Decoder.{state_of}, Steps.Holding.{Reads}}
 use Rattle.data_url.proofs.forgiving_base64.decode.Decoder.flush.Given as goal
 
 -- the closure was called with the first `at` bytes

@@ -1,9 +1,7 @@
-use Rattle.std.proofs.Common.{get_or, refl, ap, sym, ◌∙◌, arith, length-take}
+use Rattle.std.{proofs.Common.{get_or, refl, ap, sym, ◌∙◌, arith, length-take}, proofs.lemmas.List.{take_more_set}}
 use Rattle.std.proofs.lemmas.Bool.{ne_eqb}
-use Rattle.std.proofs.lemmas.List.{take_more_set}
 use Rattle.data_url.specs.Decoder.{state_of}
-use Rattle.data_url.proofs.forgiving_base64.Vectors.{space_is}
-use Rattle.data_url.proofs.forgiving_base64.Holding.{gains_none, gains_one}
+use Rattle.data_url.proofs.{forgiving_base64.Holding.{gains_none, gains_one}, forgiving_base64.Vectors.{space_is}}
 use Rattle.data_url.proofs.forgiving_base64.Steps.{adds_group, adds_kept, adds_pad, adds_space, refuses_after}
 use Rattle.data_url.proofs.forgiving_base64.Steps.{refuses_other, sound, three_items}
 use Rattle.data_url.proofs.forgiving_base64.decode.Decoder.take_byte.Goals as goal

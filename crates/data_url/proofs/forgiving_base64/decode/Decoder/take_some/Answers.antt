@@ -1,8 +1,8 @@
 use Rattle.std.proofs.Common.{◌≡◌, ap, ◌∙◌, arith}
 use Rattle.data_url.specs.Steps.Groups.{held_bytes}
 use Rattle.data_url.proofs.forgiving_base64.Holding.{fills_none, gains_groups}
-use Rattle.data_url.proofs.forgiving_base64.decode.Decoder.take_some.Goals.{then-is_between_groups+else-taken-gt0}
 use Rattle.data_url.proofs.forgiving_base64.decode.Decoder.take_some.Goals.{else-is_between_groups}
+use Rattle.data_url.proofs.forgiving_base64.decode.Decoder.take_some.Goals.{then-is_between_groups+else-taken-gt0}
 use Rattle.data_url.proofs.forgiving_base64.decode.Decoder.take_some.Goals as goal
 
 pub returns-then-taken-gt0 : goal.returns-then-taken-gt0

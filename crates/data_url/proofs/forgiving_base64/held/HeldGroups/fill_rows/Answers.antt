@@ -1,11 +1,10 @@
-use Rattle.std.proofs.Common.{◌*◌, ◌≤◌, ◌+◌, ◌≡◌, ap, arith, drop, length, length-drop, refl, sym, take, ◌∙◌}
-use Rattle.std.specs.List.{list_all}
-use Rattle.std.proofs.lemmas.List.{take-take, take_rest}
+use Rattle.std.proofs.Common.{◌*◌, ◌≤◌, ◌+◌, ◌≡◌, ap, arith, drop, length, length-drop, refl, sym, take, ◌∙◌, take-take}
+use Rattle.std.{proofs.lemmas.List.{take_rest}, specs.List.{list_all}}
 use Rattle.data_url.specs.Base64.{is_symbol}
 use Rattle.data_url.proofs.forgiving_base64.Groups.{leaves_all, leaves_fits, leaves_read, leaves_then, put_keeps}
 use Rattle.data_url.proofs.forgiving_base64.Groups.{row_fills, spaces_front}
-use Rattle.data_url.proofs.forgiving_base64.held.HeldGroups.fill_rows.Goals.{then-loop-rest-test+else-len-lt-ROOM}
 use Rattle.data_url.proofs.forgiving_base64.held.HeldGroups.fill_rows.Goals.{else-loop-rest-test}
+use Rattle.data_url.proofs.forgiving_base64.held.HeldGroups.fill_rows.Goals.{then-loop-rest-test+else-len-lt-ROOM}
 use Rattle.data_url.proofs.forgiving_base64.held.HeldGroups.fill_rows.Goals.{then-loop-rest-test+then-len-lt-ROOM+else-are_symbols+then-taken-eq0}
 use Rattle.data_url.proofs.forgiving_base64.held.HeldGroups.fill_rows.Goals as goal
 

@@ -1,16 +1,11 @@
 use Rattle.std.proofs.Common.{ap, arith, min, sym, ◌∙◌}
 use Rattle.data_url.specs.declared.mime.kept.TheConstants.{LOOKED_THROUGH}
-use Rattle.data_url.proofs.mime.FirstNames.{among_first, key_is, key_next}
+use Rattle.data_url.proofs.mime.FirstNames.{among_first, key_next}
 use Rattle.data_url.proofs.mime.kept.KeptParameters.is_among_first.Goals as goal
 
 pub loop-key-init : goal.loop-key-init
-loop-key-init c =
-    among_first _ c.deref.result.now c.args.self.now c.min.result
-    (c.min.ensures ∙ ap (min LOOKED_THROUGH) (c.len.ensures ∙ sym c.deref.ensures.len)) c.deref.ensures.value
-
-pub is_named-requires-clause-key : goal.is_named-requires-clause-key
-is_named-requires-clause-key c = (key_is _ _ c.requires.indexed c.deref.ensures.value c.loop-key-test.true
-    c.loop-key-item.is c.as_str.ensures.value).0
+loop-key-init c = among_first _ c.deref.result.now c.args.self.now c.min.result (c.min.ensures ∙ ap (min LOOKED_THROUGH)
+    (c.len.ensures ∙ sym c.deref.ensures.len)) c.deref.ensures.value
 
 pub returns-then-is_named : goal.returns-then-is_named
 returns-then-is_named c =

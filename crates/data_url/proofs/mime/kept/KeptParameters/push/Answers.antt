@@ -1,6 +1,6 @@
 use Rattle.std.proofs.Common.{arith, refl}
 use Rattle.data_url.specs.declared.mime.kept.KeptParameters.{KeptParameters}
-use Rattle.data_url.proofs.mime.FirstNames.{not_pushed, pushed_first, pushed_later}
+use Rattle.data_url.proofs.mime.FirstNames.{pushed_first, pushed_later}
 use Rattle.data_url.proofs.mime.kept.KeptParameters.push.Goals as goal
 
 pub returns-then-len-lt-LOOKED_THROUGH : goal.returns-then-len-lt-LOOKED_THROUGH
@@ -9,9 +9,6 @@ returns-then-len-lt-LOOKED_THROUGH c =
     let r = pushed_first c.args.name c.args.value c.requires.indexed c.requires.lower c.requires.new kept (omega arith)
     c.in_ok-push.ensures.items refl in
     record { pairs = r.0; indexed = r.1 }
-
-pub returns-then-not-branch-clause-pairs : goal.returns-then-not-branch-clause-pairs
-returns-then-not-branch-clause-pairs c = grind (arith, not_pushed)
 
 pub returns : goal.returns
 returns c =
