@@ -1,7 +1,6 @@
 use Rattle.std.{proofs.Common.{arith, Err, Ok, [], refl}, proofs.lemmas.Result.{err_from_is_err_and}}
 use Rattle.std.specs.Fn.{CalledAt}
 use Rattle.data_url.proofs.body.Decoding.{going_front, going_more, going_none, took_refused, takes_next}
-use Rattle.data_url.proofs.body.decode_pieces.Goals.{else-not-is_empty, then-not-is_empty+in_ok-take}
 use Rattle.data_url.proofs.body.decode_pieces.Goals as goal
 
 pub take-requires : goal.take-requires
@@ -16,10 +15,11 @@ returns-in_err-take g c =
 
 pub chunks-init : goal.chunks-init
 chunks-init g c = elim c.if-not-is_empty.branch [
-  | then-not-is_empty+in_ok-take w ↦ rw w.take-is (going_front (CalledAt g.F.FnMut) (Ok tt) c.requires.front
+  | goal.then-not-is_empty+in_ok-take w ↦ rw w.take-is (going_front (CalledAt g.F.FnMut) (Ok tt) c.requires.front
       (grind arith)
       (record { shown = _; shows = refl; called = w.in_ok-take.ensures }))
-  | else-not-is_empty w ↦ rw w.take-is (going_none (CalledAt g.F.FnMut) c.args.front.now c.requires.front (grind arith))
+  | goal.else-not-is_empty w ↦
+      rw w.take-is (going_none (CalledAt g.F.FnMut) c.args.front.now c.requires.front (grind arith))
 ]
 
 pub chunks-preserved : goal.chunks-preserved

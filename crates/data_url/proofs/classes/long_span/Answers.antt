@@ -2,7 +2,6 @@ use Rattle.std.{proofs.Common.{◌≡◌, ◌<◌, ℕ, arith, false, not, refl,
 use Rattle.data_url.specs.Steps.Classes.{in_class, is_marked}
 use Rattle.data_url.specs.{Steps.Front.{is_plain_path}, Steps.Parsing.{is_escaped, is_quotable_byte, is_unquoted_byte}}
 use Rattle.data_url.proofs.{classes.Rows.{all_marked, unmarked_passes}, texts.CodePoints.{front_further}}
-use Rattle.data_url.proofs.classes.long_span.Goals.{in-Quotable, in-Unquoted, in-PlainPath, in-Unescaped, in_default}
 use Rattle.data_url.proofs.classes.long_span.Goals as goal
 
 -- a byte that the bits of the class do not mark is in the class
@@ -10,11 +9,11 @@ unmarked : (c : goal.After-span) (b : ℕ) → b < 256 → is_marked c.match-cla
     → in_class c.args.class b ≡ true
 unfolding is_quotable_byte
 unmarked c = elim c.match-class.branch [
-  | in-Quotable w ↦ rw (w.in-Quotable.is, w.others-is) (unmarked_passes _ is_quotable_byte refl)
-  | in-Unquoted w ↦ rw (w.in-Unquoted.is, w.others-is) (unmarked_passes _ is_unquoted_byte refl)
-  | in-PlainPath w ↦ rw (w.in-PlainPath.is, w.others-is) (unmarked_passes _ is_plain_path refl)
-  | in-Unescaped w ↦ rw (w.in-Unescaped.is, w.others-is) (unmarked_passes _ (λ b. not (is_escaped b)) refl)
-  | in_default w ↦ rw w.others-is (all_marked _ _ refl)
+  | goal.in-Quotable w ↦ rw (w.in-Quotable.is, w.others-is) (unmarked_passes _ is_quotable_byte refl)
+  | goal.in-Unquoted w ↦ rw (w.in-Unquoted.is, w.others-is) (unmarked_passes _ is_unquoted_byte refl)
+  | goal.in-PlainPath w ↦ rw (w.in-PlainPath.is, w.others-is) (unmarked_passes _ is_plain_path refl)
+  | goal.in-Unescaped w ↦ rw (w.in-Unescaped.is, w.others-is) (unmarked_passes _ (λ b. not (is_escaped b)) refl)
+  | goal.in_default w ↦ rw w.others-is (all_marked _ _ refl)
 ]
 
 pub returns-clause-front : goal.returns-clause-front

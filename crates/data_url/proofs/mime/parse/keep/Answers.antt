@@ -2,8 +2,6 @@ use Rattle.std.{proofs.Common.{◌++◌, ap, inl, inr, map, sym, ◌∙◌}, pro
 use Rattle.std.{specs.Char.{to_ascii_lowercase}, specs.Option.{option_map}, specs.Str.{chars}}
 use Rattle.data_url.specs.{MimeType.{code_points}, Steps.Kept.{pairs_of}, Steps.Parsing.{unless_named, value_of}}
 use Rattle.data_url.proofs.mime.FirstNames.{not_kept, new_pair, none_added, token_text_lower}
-use Rattle.data_url.proofs.mime.parse.keep.Goals.{then-not-is_token_text-via-else-not-is_token_text+then-is_among_first}
-use Rattle.data_url.proofs.mime.parse.keep.Goals.{then-not-is_token_text-via-then-not-is_token_text}
 use Rattle.data_url.proofs.mime.parse.keep.Goals as goal
 
 pub returns-then-not-is_token_text-clause-pairs : goal.returns-then-not-is_token_text-clause-pairs
@@ -11,9 +9,9 @@ returns-then-not-is_token_text-clause-pairs c =
     none_added c.args.kept.now.pairs.items _ (not_kept (pairs_of c.args.kept.now)
     (map to_ascii_lowercase (chars c.args.parameter.now.name.now)) (value_of c.args.parameter.now.value)
     (elim c.then-not-is_token_text.branch [
-      | then-not-is_token_text-via-then-not-is_token_text w ↦
+      | goal.then-not-is_token_text-via-then-not-is_token_text w ↦
           inl (token_text_lower _ ∙ sym c.is_token_text.ensures ∙ w.if-not-is_token_text.true)
-      | then-not-is_token_text-via-else-not-is_token_text+then-is_among_first w ↦
+      | goal.then-not-is_token_text-via-else-not-is_token_text+then-is_among_first w ↦
           inr (sym w.is_among_first.ensures ∙ w.if-is_among_first.true)
     ]))
 

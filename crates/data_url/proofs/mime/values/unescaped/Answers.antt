@@ -2,7 +2,6 @@ use Rattle.std.{proofs.Common.{ap, string_bytes, ◌∙◌}, proofs.lemmas.Str.{
 use Rattle.std.proofs.lemmas.Result.{IfOk-weaker}
 use Rattle.data_url.specs.MimeType.{code_points}
 use Rattle.data_url.proofs.mime.Parsing.{copied, unescape_ends, unescape_pushes, unescape_skips}
-use Rattle.data_url.proofs.mime.values.unescaped.Goals.{then-escaped+in_ok-push-2, else-escaped}
 use Rattle.data_url.proofs.mime.values.unescaped.Goals as goal
 
 pub returns-then-long_span-quoted : goal.returns-then-long_span-quoted
@@ -29,7 +28,7 @@ pub returns : goal.returns
 returns c =
     let ends = unescape_ends _ (string_bytes c.loop-c.value) c.in-None.ensures.steps.0.0 c.loop-c.invariant.1 in
     elim c.if-escaped.branch [
-      | then-escaped+in_ok-push-2 w ↦ ap (λ s. code_points s) w.value-is
+      | goal.then-escaped+in_ok-push-2 w ↦ ap (λ s. code_points s) w.value-is
           ∙ ends.1 _ (IsUtf8-string_bytes c.loop-c.value) w.if-escaped.true w.in_ok-push-2.ensures.bytes
-      | else-escaped w ↦ ap (λ s. code_points s) w.value-is ∙ ends.0 w.if-escaped.false
+      | goal.else-escaped w ↦ ap (λ s. code_points s) w.value-is ∙ ends.0 w.if-escaped.false
     ]

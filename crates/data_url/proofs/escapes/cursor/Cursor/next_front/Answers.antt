@@ -1,6 +1,5 @@
 use Rattle.std.proofs.Common.{arith, ◌∙◌}
 use Rattle.data_url.proofs.escapes.Walking.{end_knows, front_is, front_knows}
-use Rattle.data_url.proofs.escapes.cursor.Cursor.next_front.Goals.{else-mark-len, then-mark-len}
 use Rattle.data_url.proofs.escapes.cursor.Cursor.next_front.Goals as goal
 
 pub returns-clause-front : goal.returns-clause-front
@@ -11,6 +10,6 @@ pub returns-clause-knows : goal.returns-clause-knows
 returns-clause-knows c =
     let m = c.next_mark-mark.ensures in
     front_knows (rw m.on.text_stays m.mark) (elim c.if-mark-len.branch [
-      | then-mark-len w ↦ rw w.self-is (end_knows m.looking (w.if-mark-len.true ∙ c.len.ensures))
-      | else-mark-len w ↦ rw w.self-is m.looking
+      | goal.then-mark-len w ↦ rw w.self-is (end_knows m.looking (w.if-mark-len.true ∙ c.len.ensures))
+      | goal.else-mark-len w ↦ rw w.self-is m.looking
     ])

@@ -3,10 +3,6 @@ use Rattle.data_url.specs.Decoder.{state_of}
 use Rattle.data_url.proofs.forgiving_base64.Padding.{every_list_all}
 use Rattle.data_url.proofs.forgiving_base64.Steps.{decoded_three, decoded_two, finishes_called, finishes_nothing}
 use Rattle.data_url.proofs.forgiving_base64.Steps.{finishes_refused, kind_left, valid_ends, valid_left}
-use Rattle.data_url.proofs.forgiving_base64.decode.Decoder.finish_with.Goals.{else-padding-gt0}
-use Rattle.data_url.proofs.forgiving_base64.decode.Decoder.finish_with.Goals.{in-1, in-2, in-3, in_default}
-use Rattle.data_url.proofs.forgiving_base64.decode.Decoder.finish_with.Goals.{in_default-2}
-use Rattle.data_url.proofs.forgiving_base64.decode.Decoder.finish_with.Goals.{then-padding-gt0+else-pending-padding-ne4}
 use Rattle.data_url.proofs.forgiving_base64.decode.Decoder.finish_with.Goals as goal
 
 pub returns-clause-finished : goal.returns-clause-finished
@@ -18,30 +14,30 @@ returns-clause-finished g c =
     let valid = valid_ends d.symbols d.padding every (omega (arith, size, c.args.self.few_pending))
     c.args.self.few_padding in
     elim c.match-self.branch [
-      | in_default w ↦ grind (arith, every_list_all, length-take, valid_left, kind_left, finishes_refused)
-      | in-2 w ↦
+      | goal.in_default w ↦ grind (arith, every_list_all, length-take, valid_left, kind_left, finishes_refused)
+      | goal.in-2 w ↦
           let fits = valid (omega arith) (elim w.if-padding-gt0.branch [
-            | then-padding-gt0+else-pending-padding-ne4 v ↦ inr (omega arith)
-            | else-padding-gt0 v ↦ inl (omega arith)
+            | goal.then-padding-gt0+else-pending-padding-ne4 v ↦ inr (omega arith)
+            | goal.else-padding-gt0 v ↦ inl (omega arith)
           ]) in
           rw (w.answer-is, c.into_closure.ensures, w.self-is) (finishes_called step d _ _
           (decoded_two c.args.self.symbols c.args.self.pending d.padding (omega arith) (omega arith) every
           ∙ sym (ap (take 1) w.group_of.ensures)) fits
           w.write-answer.ensures.called)
-      | in-3 w ↦
+      | goal.in-3 w ↦
           let fits = valid (omega arith) (elim w.if-padding-gt0.branch [
-            | then-padding-gt0+else-pending-padding-ne4 v ↦ inr (omega arith)
-            | else-padding-gt0 v ↦ inl (omega arith)
+            | goal.then-padding-gt0+else-pending-padding-ne4 v ↦ inr (omega arith)
+            | goal.else-padding-gt0 v ↦ inl (omega arith)
           ]) in
           rw (w.answer-is, c.into_closure.ensures, w.self-is) (finishes_called step d _ _
           (decoded_three c.args.self.symbols c.args.self.pending d.padding (omega arith) (omega arith) every
           ∙ sym (ap (take 2) w.group_of-in-3.ensures)) fits w.write-answer-in-3.ensures.called)
-      | in_default-2 w ↦
+      | goal.in_default-2 w ↦
           let fits = valid (omega arith) (elim w.if-padding-gt0.branch [
-            | then-padding-gt0+else-pending-padding-ne4 v ↦ inr (omega arith)
-            | else-padding-gt0 v ↦ inl (omega arith)
+            | goal.then-padding-gt0+else-pending-padding-ne4 v ↦ inr (omega arith)
+            | goal.else-padding-gt0 v ↦ inl (omega arith)
           ]) in
           rw (w.answer-is, c.into_closure.ensures, w.self-is)
           (finishes_nothing step d c.args.self.pending every (omega arith) (omega arith) fits)
-      | in-1 w ↦ grind (arith, every_list_all, length-take, valid_left, kind_left, finishes_refused)
+      | goal.in-1 w ↦ grind (arith, every_list_all, length-take, valid_left, kind_left, finishes_refused)
     ]

@@ -3,9 +3,6 @@ use Rattle.std.{proofs.lemmas.List.{take_rest}, specs.List.{list_all}}
 use Rattle.data_url.specs.Base64.{is_symbol}
 use Rattle.data_url.proofs.forgiving_base64.Groups.{leaves_all, leaves_fits, leaves_read, leaves_then, put_keeps}
 use Rattle.data_url.proofs.forgiving_base64.Groups.{row_fills, spaces_front}
-use Rattle.data_url.proofs.forgiving_base64.held.HeldGroups.fill_rows.Goals.{else-loop-rest-test}
-use Rattle.data_url.proofs.forgiving_base64.held.HeldGroups.fill_rows.Goals.{then-loop-rest-test+else-len-lt-ROOM}
-use Rattle.data_url.proofs.forgiving_base64.held.HeldGroups.fill_rows.Goals.{then-loop-rest-test+then-len-lt-ROOM+else-are_symbols+then-taken-eq0}
 use Rattle.data_url.proofs.forgiving_base64.held.HeldGroups.fill_rows.Goals as goal
 
 pub loop-rest-init : goal.loop-rest-init
@@ -66,9 +63,9 @@ returns-clause-fills c =
     let old = c.loop-rest.self.bytes in
     let n = 3 * c.loop-rest.len in
     let same : take n c.loop-rest-test.self.1.0 ≡ take n old = elim c.loop-rest-test.branch [
-      | then-loop-rest-test+else-len-lt-ROOM w ↦ grind arith
-      | else-loop-rest-test w ↦ grind arith
-      | then-loop-rest-test+then-len-lt-ROOM+else-are_symbols+then-taken-eq0 w ↦
+      | goal.then-loop-rest-test+else-len-lt-ROOM w ↦ grind arith
+      | goal.else-loop-rest-test w ↦ grind arith
+      | goal.then-loop-rest-test+then-len-lt-ROOM+else-are_symbols+then-taken-eq0 w ↦
           rw w.self-is (put_keeps old w.put.new.bytes w.decode_row.result n
           (omega (arith, c.loop-rest.self.sized)) w.put.ensures)
     ] in
