@@ -236,7 +236,7 @@ accepted_with a t s comma hash b =
     record {
       fragment_is = option_map (percent_encoding in_fragment_set)
           (fragment (without_tabs_and_newlines (trimmed_tail t)));
-      header_is = h.header_is;
+      header_is = h.stages.header_is;
       tail_is = h.tail_is;
       staged_is = stages_accepted u rest s.rest (trimmed_tail t) b r cut
           (has_base64_suffix (header_text (without_tabs_and_newlines s.rest))) refl;

@@ -134,10 +134,21 @@ const CUTS: [Row<'static>; 15] = [
     (0, "!", "", EXCLAMATION, &[]),
 ];
 
-/// Asserts the lengths of the pieces of each text of a table.
-fn assert_cuts(rt: &impl Abort, alloc: Global, rows: &[Row]) -> Result<(), AllocError> {
+/// Texts that are read by rows after a line break, and their pieces.
+const CUTS_BY_ROWS: [Row<'static>; 2] = [
+    (70, "", "", "", &[48, 48, 48, 48, 18]),
+    (70, "!", "", EXCLAMATION, &[48, 48, 48, 48, 18]),
+];
+
+/// Asserts the lengths of the pieces of each text of a table, after the same few bytes.
+fn assert_cuts(
+    rt: &impl Abort,
+    alloc: Global,
+    before: &str,
+    rows: &[Row],
+) -> Result<(), AllocError> {
     for (groups, end, its_bytes, message, lengths) in rows {
-        let text = with_run(alloc, ["", "QUJD", end], *groups)?;
+        let text = with_run(alloc, [before, "QUJD", end], *groups)?;
         let bytes = with_run(alloc, ["", "ABC", its_bytes], *groups)?;
         let source = Source::Base64(&[text.as_bytes()]);
         let record = source.assert_is(rt, alloc, end, bytes.as_bytes(), message)?;
@@ -148,19 +159,13 @@ fn assert_cuts(rt: &impl Abort, alloc: Global, rows: &[Row]) -> Result<(), Alloc
 
 #[test]
 fn pieces_of_texts(rt: HostRuntime) -> Result<(), Fail> {
-    assert_cuts(&rt, rt.alloc(), &CUTS)?;
+    assert_cuts(&rt, rt.alloc(), "", &CUTS)?;
     Ok(())
 }
 
 #[test]
 fn pieces_after_a_line_break(rt: HostRuntime) -> Result<(), Fail> {
-    for (end, message) in [("", ""), ("!", EXCLAMATION)] {
-        let text = with_run(rt.alloc(), ["\n", "QUJD", end], 70)?;
-        let bytes = with_run(rt.alloc(), ["", "ABC", ""], 70)?;
-        let source = Source::Base64(&[text.as_bytes()]);
-        let record = source.assert_is(&rt, rt.alloc(), end, bytes.as_bytes(), message)?;
-        assert!(rt; record.lengths.as_slice() == [48, 48, 48, 48, 18], "{end}");
-    }
+    assert_cuts(&rt, rt.alloc(), "\n", &CUTS_BY_ROWS)?;
     Ok(())
 }
 
