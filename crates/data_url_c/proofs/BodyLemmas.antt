@@ -17,7 +17,6 @@ use Rattle.data_url_c.specs.declared.parts.DataUrlBase64.{DataUrlBase64}
 use Rattle.data_url_c.specs.declared.parts.DataUrlStep.{DataUrlStep}
 use Rattle.data_url_c.specs.declared.parts.Last.{Last}
 use Rattle.data_url_c.proofs.EndLemmas.{last_room}
-use Rattle.data_url_c.proofs.LeftLemmas.{taken_room}
 use Rattle.data_url_c.proofs.PartLemmas.{Reaches, fault_cases, faulty_by, good_parts, left_text_is, reaches_more}
 use Rattle.data_url_c.proofs.PartLemmas.{takes_both, takes_fault, taken_sound, writes_front}
 

@@ -1,12 +1,12 @@
 -- Whole bodies, decoded into an output.
-use Rattle.std.proofs.Common.{◌≡◌, ℕ, ◌<◌, ◌≤◌, ◌^◌, Bool, true, false, List, length, Result, Ok, Err, refl, sym, ap}
-use Rattle.std.proofs.Common.{◌∙◌, subst, arith}
+use Rattle.std.proofs.Common.{◌≡◌, ℕ, ◌<◌, ◌≤◌, ◌^◌, Bool, true, false, List, length, Result, Ok, Err, refl, ap}
+use Rattle.std.proofs.Common.{arith}
 use Rattle.std.specs.Global.{Global}
 use Rattle.std.specs.Prelude.{IsUtf8}
 use Rattle.std.proofs.lemmas.List.{length-take-le, take-append-drop}
 use Rattle.std.proofs.Math.Seq.{drop-append_seam}
 use Rattle.data_url.specs.Base64.{Kind}
-use Rattle.data_url.specs.DataUrl.{Answers as BodyAnswers, Decodes, IsUrlOf, is_base64, url_body, url_tail}
+use Rattle.data_url.specs.DataUrl.{Answers as BodyAnswers, Decodes, IsUrlOf, url_body, url_tail}
 use Rattle.data_url.specs.Fetch.{Bad, Good, Outcome, outcome, outcome_bytes, plain_body}
 use Rattle.data_url.specs.Run.{refusal}
 use Rattle.std.specs.declared.convert.Infallible.{Infallible}

@@ -4,8 +4,6 @@ use Rattle.data_url_c.proofs.LeftLemmas.{taken_room}
 use Rattle.data_url_c.proofs.PartLemmas.{good_parts}
 use Rattle.data_url_c.proofs.StepLemmas.{base64_ends, base64_fault, base64_more}
 use Rattle.data_url_c.proofs.body.base64_window.Goals as goal
-use Rattle.data_url_c.proofs.body.base64_window.Goals.{then-has_fragment-via-then-has_fragment}
-use Rattle.data_url_c.proofs.body.base64_window.Goals.{then-has_fragment-via-else-has_fragment+then-end-tail}
 
 pub returns-then-step-ne-DONE : goal.returns-then-step-ne-DONE
 returns-then-step-ne-DONE c = grind (arith, base64_fault)
@@ -18,8 +16,8 @@ returns-then-has_fragment c =
     let s = c.args.state.now.left in
     let fed = c.feed_body-has_fragment in
     let last : (fed.result.1 ≡ true) ⊎ (c.args.end ≡ length c.args.tail.now) = elim c.then-has_fragment.branch [
-      | then-has_fragment-via-then-has_fragment w ↦ inl w.if-has_fragment.true
-      | then-has_fragment-via-else-has_fragment+then-end-tail w ↦ inr w.if-end-tail.true
+      | goal.then-has_fragment-via-then-has_fragment w ↦ inl w.if-has_fragment.true
+      | goal.then-has_fragment-via-else-has_fragment+then-end-tail w ↦ inr w.if-end-tail.true
     ] in
     let size : length fed.new.out ≡ length c.args.out.now = search rules in
     let within : fed.result.0.len ≤ length fed.new.out = omega (arith, fed.ensures.fed.wrote.within) in

@@ -1,4 +1,4 @@
-use Rattle.std.proofs.Common.{length-append, ◌-◌, arith, drop, length, length-drop, length-take, rules, subst, sym}
+use Rattle.std.proofs.Common.{length-append, arith, length-drop, length-take, rules, subst, sym}
 use Rattle.data_url_c.proofs.LeftLemmas.{taken_room}
 use Rattle.data_url.specs.Pieces.{Walk, bytes_of}
 use Rattle.data_url_c.proofs.BodyLemmas.{Fed, fed_fault, fed_more, fed_none, fed_within}

@@ -5,9 +5,6 @@ use Rattle.std.proofs.Common.{rules, ◌≡◌, arith, get_or, false, refl}
 use Rattle.std.specs.Char.{is_ascii_whitespace}
 use Rattle.std.specs.Prelude.{◌==◌}
 use Rattle.data_url.specs.Base64.{is_symbol}
-use Rattle.data_url_c.proofs.parts.fault_status.Goals.{then-is_symbol_byte+else-padded}
-use Rattle.data_url_c.proofs.parts.fault_status.Goals.{else-is_symbol_byte+then-byte-eq61}
-use Rattle.data_url_c.proofs.parts.fault_status.Goals.{else-is_symbol_byte+else-byte-eq61+else-not-is_ascii_whitespace}
 use Rattle.data_url_c.proofs.parts.fault_status.Goals as goal
 
 pub returns-then-padded : goal.returns-then-padded
