@@ -8,7 +8,7 @@ ghost use Rattle.data_url.specs.Fetch.{outcome, plain_body};
 ghost use Rattle.data_url.specs.DataUrl.{Decodes};
 ghost use Rattle.data_url.specs.Decoder.{state_of};
 
-use crate::escapes::{Pieces, ROOM};
+use crate::escapes::{BUFFER_LEN, Pieces};
 use crate::forgiving_base64::{DecodeError, Decoder};
 
 /// Calls a closure with the front of a body and the pieces after it, until it returns an error. Returns this error, or the
@@ -23,7 +23,10 @@ where
     if !front.is_empty() {
         take(front)?;
     }
-    let mut room = [0; ROOM];
+    if pieces.has_ended() {
+        return Ok(pieces.end());
+    }
+    let mut room = [0; BUFFER_LEN];
     'chunks: while !pieces.has_ended() {
         let Some(bytes) = pieces.next_bytes(&mut room) else {
             break 'chunks;

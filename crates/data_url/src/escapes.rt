@@ -15,7 +15,7 @@ mod looks;
 mod source;
 mod stops;
 
-pub(crate) use cursor::ROOM;
+pub(crate) use cursor::BUFFER_LEN;
 use cursor::{Ahead, Cursor};
 pub(crate) use source::fragment_at;
 use std::marker::Model;
@@ -107,7 +107,7 @@ impl<'a> Pieces<'a> {
 
     /// Returns the next bytes, or None if the body has ended: a long stretch of the text as it is, or shorter ones and
     /// the values of escapes, gathered in a buffer. The walk is moved out and back, so that it can stay in registers.
-    pub(crate) fn next_bytes<'r>(&mut self, room: &'r mut [u8; ROOM]) -> Option<&'r [u8]>
+    pub(crate) fn next_bytes<'r>(&mut self, room: &'r mut [u8; BUFFER_LEN]) -> Option<&'r [u8]>
     where
         'a: 'r,
         ensures { GivesBytes self.old result self.new }

@@ -77,6 +77,11 @@ module _ {F E : Type 0} (step : F → List ℕ → Result (Unit {0}) E → F →
       → Going f text w (Ok tt) f
   going_none {f} bytes i none = grind (arith, nil_from_length)
 
+  -- at the end of the body, the closure was called with the whole of it
+  pub took_all : {f g : F} {text : List ℕ} {w : Walk} {place : ℕ} → Going f text w (Ok tt) g → w.rest ≡ []
+      → IsBodyEnd w.text place → TakesBody step f text (Ok place) g
+  took_all {f} {g} {text} {w} {place} k over end = grind (arith, append-nil)
+
   -- if the closure returned an error, it took the body up to that error
   pub took_refused : {f g : F} {text : List ℕ} {w : Walk} {e : E} → Going f text w (Err e) g
       → TakesBody step f text (Err e) g

@@ -331,8 +331,8 @@ stop_passed text place looks l h =
 
 -- Blocks of a body and their marks. For `look_block` and `next_mark`.
 
--- a block of 64 bytes of the text, copied into a buffer of 256 bytes, leaves its first `width` bytes there
-pub copied_wide : (room bytes text : List ℕ) (len width start : ℕ) → length room ≡ 256 → len + 64 ≤ 256 → width ≤ 64
+-- a block of 64 bytes of the text, copied into a buffer of 512 bytes, leaves its first `width` bytes there
+pub copied_wide : (room bytes text : List ℕ) (len width start : ℕ) → length room ≡ 512 → len + 64 ≤ 512 → width ≤ 64
     → start + 64 ≤ length text → bytes ≡ text
     → take (len + width) (put_mid len (len + 64 - len) room (put_chunk 0 (mid_of len (len + 64 - len) room)
     (chunk 0 64 (take (start + 64 - start) (drop start bytes))))) ≡ take len room ++ take width (drop start text)

@@ -142,8 +142,8 @@ pub record Gathers (c c' : Cursor) (room room' : List ℕ) (len len' : ℕ) : Ty
 
 -- the buffer has room for the rest of the block, and for another block
 pub record HasRoom (c : Cursor) (len : ℕ) : Type 0 where
-  pub some : len ≤ 256
-  pub for_block : c.place < c.block.seen → len + (c.block.seen - c.place) + 64 ≤ 256
+  pub some : len ≤ 512
+  pub for_block : c.place < c.block.seen → len + (c.block.seen - c.place) + 64 ≤ 512
 
 -- the walk can copy the rest of its block into the buffer
 pub record MayGather (c : Cursor) (len : ℕ) : Type 0 where
@@ -168,5 +168,5 @@ Moves c c' = MatchBool (has_ended c'.ahead) (Unit {0}) (c.place < c'.place)
 abbrev pub IsGathered : Cursor → Cursor → ℕ → Bool → Type 0
 IsGathered c c' len ended =
     MatchBool ended
-    ((len ≤ 256) × (c'.ahead ≡ End) × Ended c')
+    ((len ≤ 512) × (c'.ahead ≡ End) × Ended c')
     ((c'.block.seen ≡ c.block.seen) × (c.place < c'.place) × MayGather c' len)

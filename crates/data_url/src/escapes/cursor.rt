@@ -13,8 +13,8 @@ use super::lanes::BLOCK;
 use super::source::Source;
 use super::stops::{Block, Stop};
 
-/// The greatest number of bytes that are gathered.
-pub(crate) const ROOM: usize = 256;
+/// How many bytes the buffer holds in which short stretches and values of escapes are gathered.
+pub(crate) const BUFFER_LEN: usize = 512;
 
 /// How many bytes an escape has, without tabs and newlines.
 const ESCAPE: usize = 3;
@@ -159,7 +159,7 @@ impl<'a> Cursor<'a> {
     /// The next bytes: a long stretch of the text as it is, or shorter ones and the values of escapes, gathered in a
     /// buffer.
     #[inline(always)]
-    pub(super) fn next_bytes<'r>(&mut self, room: &'r mut [u8; ROOM]) -> Option<&'r [u8]>
+    pub(super) fn next_bytes<'r>(&mut self, room: &'r mut [u8; BUFFER_LEN]) -> Option<&'r [u8]>
     where
         'a: 'r,
         requires { Knows self.old }
@@ -183,14 +183,14 @@ impl<'a> Cursor<'a> {
     /// Gathers the bytes of the next pieces in a buffer while they come in short stretches, and returns how many. None
     /// are gathered if the body ends or a long stretch begins.
     #[inline(always)]
-    fn gather(&mut self, room: &mut [u8; ROOM]) -> usize
+    fn gather(&mut self, room: &mut [u8; BUFFER_LEN]) -> usize
         requires { Knows self.old }
         ensures gathers { Gathers self.old self.new room.old room.new 0 result }
-        ensures few { result ≤ 256 }
+        ensures few { result ≤ 512 }
         ensures knows { Knows self.new }
     {
         let mut len = self.gather_known(room);
-        while len <= ROOM - 2 * BLOCK && self.is_mark_near(len) {
+        while len <= BUFFER_LEN - 2 * BLOCK && self.is_mark_near(len) {
             let last = self.source.len() - self.block.seen < BLOCK;
             len = if last || self.block.marks.count_ones() >= MANY {
                 self.gather_block(room, len, true)
@@ -203,7 +203,7 @@ impl<'a> Cursor<'a> {
 
     /// Gathers the escape that is known to be at the place.
     #[inline(always)]
-    fn gather_known(&mut self, room: &mut [u8; ROOM]) -> usize
+    fn gather_known(&mut self, room: &mut [u8; BUFFER_LEN]) -> usize
         requires { KnowsAhead self.old self.old.ahead }
         ensures gathers { Gathers self.old self.new room.old room.new 0 result }
         ensures few { result ≤ 1 }
@@ -247,12 +247,12 @@ impl<'a> Cursor<'a> {
     /// Gathers the rest of the block that was read, after the bytes that were gathered before. In a dense block escapes
     /// follow one another. Any other block is copied by whole blocks.
     #[inline(always)]
-    fn gather_block(&mut self, room: &mut [u8; ROOM], len: usize, dense: bool) -> usize
+    fn gather_block(&mut self, room: &mut [u8; BUFFER_LEN], len: usize, dense: bool) -> usize
         requires may { MayGather self.old len }
         requires here { self.old.place < self.old.block.seen }
         requires wide { IsWide self.old dense }
         ensures gathers { Gathers self.old self.new room.old room.new len result }
-        ensures few { result ≤ 256 }
+        ensures few { result ≤ 512 }
         ensures gathering { Gathering self.new }
         ensures moves { Moves self.old self.new }
     {
@@ -277,7 +277,7 @@ impl<'a> Cursor<'a> {
 
     /// Gathers what begins at the mark at the place.
     #[inline(always)]
-    fn gather_stop(&mut self, room: &mut [u8; ROOM], len: usize, dense: bool) -> (usize, bool)
+    fn gather_stop(&mut self, room: &mut [u8; BUFFER_LEN], len: usize, dense: bool) -> (usize, bool)
         requires may { MayGather self.old len }
         requires here { self.old.place < self.old.block.seen }
         requires marked { is_marked (slice_index (text_of self.old) self.old.place) ≡ true }
@@ -314,7 +314,7 @@ impl<'a> Cursor<'a> {
 
     /// Gathers the values of escapes that follow one another after an escape.
     #[inline(always)]
-    fn gather_escapes(&mut self, room: &mut [u8; ROOM], len: usize) -> usize
+    fn gather_escapes(&mut self, room: &mut [u8; BUFFER_LEN], len: usize) -> usize
         requires unknown { self.old.ahead ≡ Ahead.Unknown }
         requires looking { Looking self.old.source self.old.block self.old.place 3 }
         requires room { HasRoom self.old len }
@@ -323,7 +323,7 @@ impl<'a> Cursor<'a> {
         ensures block { self.new.block.seen ≡ self.old.block.seen }
     {
         let mut len = len;
-        let end = ROOM.min(len + (self.source.len() - self.place) / ESCAPE);
+        let end = BUFFER_LEN.min(len + (self.source.len() - self.place) / ESCAPE);
         while len < end {
             let Some(value) = self.source.escape_here(self.place) else {
                 return len;

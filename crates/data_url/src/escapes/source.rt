@@ -10,7 +10,7 @@ ghost use Rattle.data_url.specs.Steps.Walk.{IsBlock};
 ghost use Rattle.data_url.specs.Steps.Window.{is_marked};
 ghost use Rattle.data_url.specs.Url.{after, number_sign};
 
-use super::cursor::ROOM;
+use super::cursor::BUFFER_LEN;
 use super::lanes::{BLOCK, marks_of};
 use super::looks::Looks;
 use super::stops::Block;
@@ -94,7 +94,7 @@ impl<'a> Source<'a> {
         &self,
         start: usize,
         end: usize,
-        room: &mut [u8; ROOM],
+        room: &mut [u8; BUFFER_LEN],
         len: usize,
         wide: bool,
     )
@@ -102,7 +102,7 @@ impl<'a> Source<'a> {
         requires short { end ≤ start + 64 }
         requires within { end ≤ length self.now.text.now }
         requires wide { IsTrue wide → start + 64 ≤ length self.now.text.now }
-        requires room { len + 64 ≤ 256 }
+        requires room { len + 64 ≤ 512 }
         ensures { take (len + (end - start)) room.new
             ≡ take len room.old ++ slice_range self.now.text.now start end }
     {

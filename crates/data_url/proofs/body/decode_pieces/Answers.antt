@@ -1,6 +1,6 @@
 use Rattle.std.{proofs.Common.{arith, Err, Ok, [], refl}, proofs.lemmas.Result.{err_from_is_err_and}}
 use Rattle.std.specs.Fn.{CalledAt}
-use Rattle.data_url.proofs.body.Decoding.{going_front, going_more, going_none, took_refused, takes_next}
+use Rattle.data_url.proofs.body.Decoding.{going_front, going_more, going_none, took_all, took_refused, takes_next}
 use Rattle.data_url.proofs.body.decode_pieces.Goals as goal
 
 pub take-requires : goal.take-requires
@@ -21,6 +21,17 @@ chunks-init g c = elim c.if-not-is_empty.branch [
   | goal.else-not-is_empty w ↦
       rw w.take-is (going_none (CalledAt g.F.FnMut) c.args.front.now c.requires.front (grind arith))
 ]
+
+pub returns-then-has_ended : goal.returns-then-has_ended
+returns-then-has_ended g c =
+    let over = c.has_ended.ensures.over c.if-has_ended.true in
+    elim c.if-not-is_empty.branch [
+      | goal.then-not-is_empty+in_ok-take w ↦ rw w.take-is (took_all (CalledAt g.F.FnMut) (going_front
+          (CalledAt g.F.FnMut) (Ok tt) c.requires.front (grind arith)
+          (record { shown = _; shows = refl; called = w.in_ok-take.ensures })) over c.end.ensures)
+      | goal.else-not-is_empty w ↦ rw w.take-is (took_all (CalledAt g.F.FnMut)
+          (going_none (CalledAt g.F.FnMut) c.args.front.now c.requires.front (grind arith)) over c.end.ensures)
+    ]
 
 pub chunks-preserved : goal.chunks-preserved
 chunks-preserved g c =

@@ -8,7 +8,7 @@ abbrev pub invariant-loop-len : goal.invariant-loop-len
 invariant-loop-len l =
     Gathers l.fn.self l.self l.fn.room l.room 0 l.len
     × Gathering l.self
-    × (l.len ≤ 256)
+    × (l.len ≤ 512)
 
 abbrev pub decreases-loop-len : goal.decreases-loop-len
 decreases-loop-len l = measure (length (text_of l.fn.self)) l.self.place (has_ended l.self.ahead)
