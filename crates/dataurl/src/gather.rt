@@ -64,14 +64,12 @@ impl Gathered {
             self.push(piece);
             return Ok(());
         }
-        match self.flush(writer) {
-            Ok(()) if piece.len() < ROOM => {
-                self.push(piece);
-                Ok(())
-            }
-            Ok(()) => write_all(writer, piece),
-            Err(failed) => Err(failed),
+        self.flush(writer)?;
+        if piece.len() >= ROOM {
+            return write_all(writer, piece);
         }
+        self.push(piece);
+        Ok(())
     }
 
     /// Writes the bytes in the buffer, and then returns the end.

@@ -41,12 +41,9 @@ where
             *ended = Ended::Decoded(answer);
             return write;
         }
-        match decoder.feed(&piece[..len]) {
-            Ok(()) => {}
-            Err(error) => {
-                *ended = Ended::Decoded(Err(error));
-                return decoder.into_closure();
-            }
+        if let Err(error) = decoder.feed(&piece[..len]) {
+            *ended = Ended::Decoded(Err(error));
+            return decoder.into_closure();
         }
     }
     decoder.into_closure()

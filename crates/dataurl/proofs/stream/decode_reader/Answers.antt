@@ -18,9 +18,9 @@ loop-preserved g c =
     let bytes = c.in-Ok.ensures.bytes in
     record {
       callable = c.feed.ensures.callable;
-      going = c.in-Ok-feed.ensures.fed.failed;
+      going = c.in_default-feed.ensures.fed.failed;
       reading = reading_more (CalledAt g.F.FnMut) (take c.in-Ok.len c.read.new.buf) c.loop.invariant.reading bytes.0
-          c.in-Ok-feed.ensures.fed;
+          c.in_default-feed.ensures.fed;
       size = search rules;
       ended = c.loop.invariant.ended;
     }
