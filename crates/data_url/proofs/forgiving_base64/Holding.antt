@@ -140,11 +140,6 @@ held_cut s b at end h =
     )
 
 module _ {F E : Type 0} (step : F → List ℕ → Result (Unit {0}) E → F → Type 0) where
-  -- a call between two groups leaves the decoder between two groups
-  pub called_between : (d d' : State F) (r : Result (Unit {0}) (DecodeError E)) (bytes : List ℕ) → IsBetweenGroups d
-      → CallsOnce step d bytes r d' → IsBetweenGroups d'
-  called_between d d' r bytes i w = (w.symbols_stay ∙ i.0, w.padding_stays ∙ i.1)
-
   -- if c is a fault and completes no group, feeding c returns its error without a call, and d has failed
   refuses_feeds : {d d1 d2 d' : State F} {c : ℕ} {kind : Kind} → left_over d ≡ left_over d1 → Refuses d1 c kind d2
       → d' ≡ record d { failed = true } → Feeds step d (c ∷ []) (Err (InvalidBase64 kind)) d'

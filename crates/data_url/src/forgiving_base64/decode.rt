@@ -203,10 +203,7 @@ where
             (state_of self.new)) }
     {
         let mut at = 0;
-        if !self.is_between_groups() {
-            return Ok(0);
-        }
-        while text.len() - at >= 64 && is_whole(&text[at..]) {
+        while self.is_between_groups() && text.len() - at >= 64 && is_whole(&text[at..]) {
             self.write(&decode(&text[at..]))?;
             at += 64;
         }

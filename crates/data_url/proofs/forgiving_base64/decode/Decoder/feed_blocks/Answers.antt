@@ -1,41 +1,36 @@
 use Rattle.std.{proofs.Common.{[], append-nil, sym, ◌∙◌, ◌+◌, arith}, proofs.lemmas.Result.{err_from_is_err_and}}
 use Rattle.std.specs.Fn.{CalledAt}
-use Rattle.data_url.proofs.forgiving_base64.Holding.{block_reads, called_between, reads_called, reads_none}
+use Rattle.data_url.proofs.forgiving_base64.Holding.{block_reads, reads_called, reads_none}
 use Rattle.data_url.proofs.{forgiving_base64.Holding.{reads_refused}, forgiving_base64.Steps.{feeds_stop, sound}}
 use Rattle.data_url.proofs.forgiving_base64.decode.Decoder.feed_blocks.Goals as goal
 
-pub returns-then-not-is_between_groups-clause-fed : goal.returns-then-not-is_between_groups-clause-fed
-returns-then-not-is_between_groups-clause-fed g c = (
-  omega arith,
-  reads_none (CalledAt g.F.FnMut) (sound c.args.self.now) c.requires.going,
-)
-
-pub loop-at-init : goal.loop-at-init
-loop-at-init g c = grind (arith, reads_none, sound)
+pub loop-self-init : goal.loop-self-init
+loop-self-init g c = grind (arith, reads_none, sound)
 
 pub returns-in_err-write-clause-fed : goal.returns-in_err-write-clause-fed
 returns-in_err-write-clause-fed g c =
     let step = CalledAt g.F.FnMut in
     let p = err_from_is_err_and c.from_residual.result c.from_residual.ensures.1 in
-    let i = c.loop-at.invariant in
-    rw (p.1, p.2) (feeds_stop step c.args.text.now (c.loop-at.at + 64)
+    let i = c.loop-self.invariant in
+    let between = c.is_between_groups.ensures c.loop-self-test.true in
+    rw (p.1, p.2) (feeds_stop step c.args.text.now (c.loop-self.at + 64)
     (reads_refused step c.decode.result [] (omega arith) (rw (append-nil c.decode.result) (block_reads step
-    c.args.text.now c.loop-at.at c.type_inv.text i.between (omega arith)
+    c.args.text.now c.loop-self.at c.type_inv.text between (omega arith)
     (sym c.if-is_whole.true ∙ c.is_whole.ensures) c.decode.ensures i.reads)) c.in_err-write.ensures.called))
 
-pub loop-at-preserved : goal.loop-at-preserved
-loop-at-preserved g c =
+pub loop-self-preserved : goal.loop-self-preserved
+loop-self-preserved g c =
     let step = CalledAt g.F.FnMut in
-    let i = c.loop-at.invariant in
+    let i = c.loop-self.invariant in
+    let between = c.is_between_groups.ensures c.loop-self-test.true in
     let w = c.in_ok-write.ensures.called in
     record {
       callable = c.in_ok-write.ensures.callable;
       within = omega arith;
-      between = called_between step _ _ _ c.decode.result i.between w;
       reads = reads_called step c.decode.result [] (omega arith) (rw (append-nil c.decode.result) (block_reads step
-          c.args.text.now c.loop-at.at c.type_inv.text i.between (omega arith)
+          c.args.text.now c.loop-self.at c.type_inv.text between (omega arith)
           (sym c.if-is_whole.true ∙ c.is_whole.ensures) c.decode.ensures i.reads)) w;
     }
 
 pub returns-clause-fed : goal.returns-clause-fed
-returns-clause-fed g c = (c.loop-at.invariant.within, c.loop-at.invariant.reads)
+returns-clause-fed g c = (c.loop-self.invariant.within, c.loop-self.invariant.reads)
