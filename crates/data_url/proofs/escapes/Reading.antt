@@ -1,7 +1,7 @@
 -- What a walk reads: digits after tabs and newlines, the bytes between two places, and blocks with their marks.
 use Rattle.std.proofs.Common.{List, [], ◌∷◌, ◌++◌, length, drop, get_or, Option, None, Some, refl, sym, ap, ◌∙◌, arith}
 use Rattle.std.proofs.Common.{bit_and, w8, Fits, ◌≢◌, inl, inr, ◌==◌, slice_range, take_all, length-take-le, take-take}
-use Rattle.std.proofs.Common.{eqb, ltb, eqb-true, take, append_assoc, length-append, ◌/◌, ◌^◌, map, min, replicate, ◌%◌}
+use Rattle.std.proofs.Common.{leb, eqb, ltb, eqb-true, take, append_assoc, length-append, ◌/◌, ◌^◌, map, min, replicate, ◌%◌}
 use Rattle.std.proofs.Common.{map-id, ◌≡◌, ℕ, zero, suc, ◌+◌, ◌*◌, ◌-◌, ◌<◌, ◌≤◌, Bool, true, false, not, cond, ◌&&◌}
 use Rattle.std.{proofs.Math.Nat.{div-div-eq-div-mul, pow-suc}, proofs.lemmas.Nat.{le_or_l, le_or_r, and_le_r}}
 use Rattle.std.{proofs.Math.Seq.{take-append-add}, specs.Char.{digit_value, is_ascii_hexdigit}, specs.List.{prefix_len}}
@@ -9,7 +9,7 @@ use Rattle.std.proofs.lemmas.Bool.{agree_below_at, and_left, and_right, cases_Bo
 use Rattle.std.proofs.lemmas.List.Sums.{prefix_len-drop_yes, prefix_len-drop_no, prefix_len-le-length}
 use Rattle.std.proofs.lemmas.List.{drop-replicate, take_rest, take-append-le, drop-map, length-map}
 use Rattle.std.proofs.lemmas.Simd.{SwzOk-from_below, get_or-swz_l_below, mask_l-mod, swz_l, run_in_chunk_le}
-use Rattle.std.proofs.lemmas.Simd.{run_in_chunk_stops, trailing_mask_l, tops_compared, zip2_of_maps}
+use Rattle.std.proofs.lemmas.Simd.{bitmask_splat, run_in_chunk_stops, trailing_mask_l, tops_compared, zip2_of_maps}
 use Rattle.std.proofs.lemmas.Simd.{zip2_splat, none_from_empty_mask, run_in_chunk_fails, put_chunk_whole, SwzOk}
 use Rattle.std.{specs.Int.Count.{count_trailing_zeros}, specs.Simd.Lanes.{chunk, mask_l, put_chunk, Each1, top, zip2}}
 use Rattle.data_url.specs.{Fetch.{plain_body}, Percent.{begins_with_escape, percent_decoding}, Pieces.{is_slice_end}}
@@ -449,6 +449,20 @@ marks_are v long fits =
     let e = zip2_of_maps eqb entry (λ b. b) v (looked_up v long) (sym (map-id v)) in
     let t = tops_compared w8 eqb (swz_l w8 16 MARKED 0 (lows v)) v in
     cc (marked_each v fits, mask_l-mod (map is_marked v) 64 (omega arith))
+
+-- if no byte is at most '%', none is marked
+none_low : (v : List ℕ) → mask_l (map (λ b. leb b 37) v) ≡ 0 → 0 ≡ mask_l (map is_marked v)
+none_low [] e = refl
+none_low (b ∷ v) e = grind (arith, none_low v)
+
+-- if a comparison of lanes finds no byte that is at most '%', none is marked
+pub none_marked : (v : List ℕ) → length v ≡ 64
+    → mask_l (map (top 7) (zip2 (λ a b. cond (leb a b) 255 0) v (replicate 64 37))) % 2 ^ 64 ≡ 0
+    → 0 ≡ mask_l (map is_marked v)
+none_marked v long e = none_low v (sym (bitmask_splat w8 leb v 64 37 long (omega arith)) ∙ e)
+
+-- the lemmas for `marks_of`
+pub ruleset marks = (lows_ok, marks_are, none_marked)
 
 -- if no item of a list passes a test, the mask of the items that pass is 0
 mask_none : (p : ℕ → Bool) (xs : List ℕ) → prefix_len (λ y. not (p y)) xs ≡ length xs → mask_l (map p xs) ≡ 0

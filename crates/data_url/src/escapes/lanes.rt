@@ -1,6 +1,6 @@
 //! Finds the bytes of a text that its body does not hold as they are, 64 bytes at a time.
 
-#![tactic(auto, using(crate::proofs::escapes::Reading::lows_ok, crate::proofs::escapes::Reading::marks_are))]
+#![tactic(auto, using(crate::proofs::escapes::Reading::marks))]
 
 ghost use Rattle.std.specs.Prelude.{◌≡◌, map};
 ghost use Rattle.std.specs.Simd.Lanes.{mask_l};
@@ -18,11 +18,15 @@ const MARKED: [u8; 64] = [
     10, 0, 0, 13, 0, 0,
 ];
 
-/// The marks of 64 bytes: bit k is set where byte k is a tab, a newline, `#` or `%`.
+/// The marks of 64 bytes: bit k is set where byte k is a tab, a newline, `#` or `%`. A comparison alone shows that there
+/// are none if all bytes are greater than `%`, as symbols of base64 are.
 #[inline(always)]
 pub(super) fn marks_of(bytes: u8x64) -> u64
     ensures { result ≡ mask_l (map is_marked bytes) }
 {
+    if !bytes.simd_le(u8x64::splat(b'%')).any() {
+        return 0;
+    }
     u8x64::from_array(MARKED)
         .swizzle_dyn_within::<16>(bytes & u8x64::splat(15))
         .simd_eq(bytes)
