@@ -26,10 +26,10 @@ pub(crate) enum EncodeSet {
 }
 
 /// How many bytes are encoded at a time.
-const PART: usize = 64;
+const PART: usize = 128;
 
 /// The size of the buffer, in bytes: more than a part is written as.
-const ROOM: usize = 256;
+const ROOM: usize = 512;
 
 /// Returns true only if each byte of a part of whole rows is written as it is.
 #[inline(always)]
@@ -44,7 +44,7 @@ fn is_kept(set: EncodeSet, part: &[u8]) -> bool
 /// Writes a row to a place in the buffer.
 #[inline(always)]
 fn put(room: &mut [u8; ROOM], at: usize, row: &[u8])
-    requires room { at + 4 ≤ 256 }
+    requires room { at + 4 ≤ 512 }
     requires row { length row.now ≡ 4 }
     ensures { take (at + 4) room.new ≡ take at room.old ++ row.now }
 {
@@ -55,8 +55,8 @@ fn put(room: &mut [u8; ROOM], at: usize, row: &[u8])
 /// returns how many bytes that takes.
 #[inline(always)]
 fn encode_part(set: EncodeSet, part: &[u8], room: &mut [u8; ROOM]) -> usize
-    requires { length part.now ≤ 64 }
-    ensures few { result ≤ 256 }
+    requires { length part.now ≤ 128 }
+    ensures few { result ≤ 512 }
     ensures written { take result room.new
         ≡ percent_encoding (in_set set) (without_tabs_and_newlines part.now) }
     ensures text { IsUtf8 (take result room.new) }

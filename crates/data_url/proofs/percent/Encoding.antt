@@ -311,12 +311,12 @@ pub record Plain (b : ℕ) : Type 0 where
 -- the bytes before byte i are written at the front of the buffer
 pub record PutTo (p : ℕ → Bool) (s : List ℕ) (i : ℕ) (room : List ℕ) (at : ℕ) : Type 0 where
   pub few : at ≤ 3 * i
-  pub long : length room ≡ 256
+  pub long : length room ≡ 512
   pub wrote : take at room ≡ encoded p (take i s)
 
 -- if the row of byte i is put after them, so are the bytes before byte i + 1
 pub put_more : (p : ℕ → Bool) (s : List ℕ) (i : ℕ) (room : List ℕ) (at : ℕ) (row room' : List ℕ) → PutTo p s i room at
-    → i < length s → at ≤ 256 → IsRow p (get_or s i 0) row → length room' ≡ 256
+    → i < length s → at ≤ 512 → IsRow p (get_or s i 0) row → length room' ≡ 512
     → take (at + 4) room' ≡ take at room ++ row → PutTo p s (i + 1) room' (at + slice_index row 3)
 put_more p s i room at row room' m l within r n h =
     let width = slice_index row 3 in
