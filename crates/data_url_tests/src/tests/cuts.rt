@@ -14,8 +14,8 @@ const REFUSED: usize = 7;
 /// The length of a long stretch.
 const LONG: usize = 100_000;
 
-/// The length of the longest piece that is not a stretch of the text.
-const ROOM: usize = 256;
+/// How many bytes the buffer for short stretches holds: no piece that is gathered is longer.
+const BUFFER_LEN: usize = 512;
 
 /// Returns the lengths of the pieces of a body whose middle is repeated `count` times. None of them is 0.
 fn lengths_of(
@@ -33,7 +33,7 @@ fn lengths_of(
 
 /// Returns how many pieces are longer than the buffer for short ones.
 fn count_long(lengths: &[usize]) -> usize {
-    lengths.iter().filter(|len| **len > ROOM).count()
+    lengths.iter().filter(|len| **len > BUFFER_LEN).count()
 }
 
 /// What comes before and after a long stretch, and the least length of the longest piece.
@@ -41,8 +41,8 @@ const AROUND_STRETCHES: [(&str, &str, usize); 5] = [
     ("", "", LONG),
     ("", "#f", LONG),
     ("", "%41%42", LONG),
-    ("%41", "", LONG - ROOM),
-    ("b%41", "%41\tb%42#f", LONG - ROOM),
+    ("%41", "", LONG - BUFFER_LEN),
+    ("b%41", "%41\tb%42#f", LONG - BUFFER_LEN),
 ];
 
 /// Asserts that each long stretch is one piece.
@@ -75,7 +75,7 @@ const SHORT_PARTS: [(&str, usize); 6] = [
 fn assert_gathered(rt: &impl Abort, alloc: Global, rows: &[(&str, usize)]) -> Result<(), Fail> {
     for (part, len) in rows {
         let lengths = lengths_of(rt, alloc, ["", part, ""], 5000)?;
-        let most = 5000_usize.saturating_mul(*len) / (ROOM / 2);
+        let most = 5000_usize.saturating_mul(*len) / (BUFFER_LEN / 2);
         assert!(rt; count_long(&lengths) == 0, "{part}");
         assert!(rt; lengths.len() <= most, "{part}");
     }
