@@ -239,7 +239,7 @@ impl<'a> Cursor<'a> {
             return false;
         }
         if place >= self.block.seen {
-            self.block = self.source.look_block(place);
+            self.block = self.source.look_block(place, false);
         }
         len > 0 || self.block.marks != 0
     }

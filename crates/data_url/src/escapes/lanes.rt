@@ -18,13 +18,13 @@ const MARKED: [u8; 64] = [
     10, 0, 0, 13, 0, 0,
 ];
 
-/// The marks of 64 bytes: bit k is set where byte k is a tab, a newline, `#` or `%`. A comparison alone shows that there
-/// are none if all bytes are greater than `%`, as symbols of base64 are.
+/// The marks of 64 bytes: bit k is set where byte k is a tab, a newline, `#` or `%`. If they are `sparse`, one comparison
+/// first shows whether all bytes are greater than `%`, as symbols of base64 are. Then there are no marks.
 #[inline(always)]
-pub(super) fn marks_of(bytes: u8x64) -> u64
+pub(super) fn marks_of(bytes: u8x64, sparse: bool) -> u64
     ensures { result ≡ mask_l (map is_marked bytes) }
 {
-    if !bytes.simd_le(u8x64::splat(b'%')).any() {
+    if sparse && !bytes.simd_le(u8x64::splat(b'%')).any() {
         return 0;
     }
     u8x64::from_array(MARKED)

@@ -57,9 +57,10 @@ impl<'a> Source<'a> {
         self.text.as_bytes()[place]
     }
 
-    /// Reads the block of at most 64 bytes at a place. Each of its bytes counts as a look.
+    /// Reads the block of at most 64 bytes at a place. Each of its bytes counts as a look. It is faster if `sparse` says
+    /// whether the block is likely to have no mark.
     #[inline(always)]
-    pub(super) fn look_block(&mut self, place: usize) -> Block
+    pub(super) fn look_block(&mut self, place: usize, sparse: bool) -> Block
         requires { place ≤ length self.old.text.now }
         ensures base { result.base ≡ place }
         ensures seen { result.seen ≡ min (place + 64) (length self.old.text.now) }
@@ -73,7 +74,7 @@ impl<'a> Source<'a> {
         Block {
             base: place,
             seen: place + len,
-            marks: first_marks(rest),
+            marks: first_marks(rest, sparse),
         }
     }
 
@@ -138,13 +139,13 @@ pub(crate) fn fragment_at(text: &str, place: usize) -> Option<&str>
 
 /// Returns the marks of the first 64 bytes, or of fewer.
 #[inline(always)]
-fn first_marks(rest: &[u8]) -> u64
+fn first_marks(rest: &[u8], sparse: bool) -> u64
     ensures { result ≡ mask_l (map is_marked (take 64 rest.now)) }
 {
     if rest.len() < BLOCK {
         last_marks(rest)
     } else {
-        marks_of(u8x64::from_slice(&rest[..BLOCK]))
+        marks_of(u8x64::from_slice(&rest[..BLOCK]), sparse)
     }
 }
 
@@ -156,5 +157,5 @@ fn last_marks(rest: &[u8]) -> u64
 {
     let mut block = [0; BLOCK];
     block[..rest.len()].copy_from_slice(rest);
-    marks_of(u8x64::from_array(block))
+    marks_of(u8x64::from_array(block), false)
 }
