@@ -26,6 +26,6 @@ pub use Rattle.data_url.proofs.texts.Bytes.{after_at, after_nil, after_none, aft
 pub use Rattle.data_url.proofs.texts.Bytes.{dropped_keeps, dropped_nil, dropped_passes, fragment_dropped, is_cut, lacks}
 pub use Rattle.data_url.proofs.texts.Bytes.{without_tabs_and_newlines-append}
 -- Words of the lemmas above
-pub use Rattle.data_url.specs.Steps.Front.{HasNoScheme, IsHeaderAndTail, IsSchemeAndRest}
+pub use Rattle.data_url.specs.Steps.Split.{HasNoScheme, IsHeaderAndTail, IsSchemeAndRest}
 unfoldable pub use Rattle.data_url.specs.Steps.Header.{header_text}
 pub use Rattle.data_url.specs.Steps.Whole.{DecodesText}

@@ -5,7 +5,7 @@ use Rattle.std.specs.Prelude.{[], if◌then◌else◌, ◌++◌, ◌-◌, ◌==�
 use Rattle.std.specs.Str.{bytes_eq}
 use Rattle.data_url.specs.Base64.{Kind, decoded, complete_bytes, is_valid, kind_of}
 use Rattle.data_url.specs.Percent.{percent_decoding}
-use Rattle.data_url.specs.Url.{after, after_scheme, before, comma, fragment, front, in_fragment_set, percent_encoding, serialised, trimmed_text, without_end, without_front, without_tabs_and_newlines}
+use Rattle.data_url.specs.Url.{after, after_scheme, before, comma, fragment, front, in_fragment_set, percent_encoding, serialised, trimmed_text, without_end, without_start, without_tabs_and_newlines}
 
 -- Header and body
 
@@ -40,7 +40,7 @@ is_space b = b == 32
 
 -- the header without spaces at both ends (step 6)
 unfoldable pub stripped_header : List ℕ → List ℕ
-stripped_header h = without_end is_space (without_front is_space h)
+stripped_header h = without_end is_space (without_start is_space h)
 
 -- the text without its last n bytes, if these pass the test
 abbrev pub without_last : ℕ → (List ℕ → Bool) → List ℕ → Option (List ℕ)

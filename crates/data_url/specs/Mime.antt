@@ -5,7 +5,7 @@ use Rattle.std.specs.List.{AllByRecursion, flat_map, list_all, list_any}
 use Rattle.std.specs.Prelude.{[], if◌then◌else◌, ◌&&◌, ◌++◌, ◌==◌, ◌||◌, ◌∷◌, ◌≡◌, ◌≢◌, ◌⊎◌, Bool, IsTrue, List, None, Option, Some, codes, false, map, not, true, ℕ}
 use Rattle.std.specs.Str.{bytes_eq}
 use Rattle.data_url.specs.CodePoints.{ends_name, is_http_whitespace, is_quotable, is_semicolon, is_token}
-use Rattle.data_url.specs.Url.{without_end, without_front}
+use Rattle.data_url.specs.Url.{without_end, without_start}
 
 -- Records
 
@@ -155,7 +155,7 @@ BeginsParameters (c ∷ r) = c ≡ 59
 -- of the parameters
 pub record IsHead (s type_ subtype parameters : List ℕ) : Type 0 where
   pub gap : List ℕ
-  pub joined : without_end is_http_whitespace (without_front is_http_whitespace s)
+  pub joined : without_end is_http_whitespace (without_start is_http_whitespace s)
       ≡ type_ ++ (47 ∷ (subtype ++ (gap ++ parameters)))
   pub is_type : IsTrue (is_token_text type_)
   pub is_subtype : IsTrue (is_token_text subtype)

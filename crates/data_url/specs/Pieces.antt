@@ -61,8 +61,8 @@ pub record Walk : Type 0 where
   pub looks : ℕ
 
 -- a walk at the start of its text: the concatenation of its pieces is the percent-decoded body
-abbrev pub walk_at_front : List ℕ → Walk
-walk_at_front text =
+abbrev pub walk_at_start : List ℕ → Walk
+walk_at_start text =
     record { text = text; place = 0; rest = plain_body text; ended = false; looks = 0 }
 
 -- What contracts see of a `Pieces`

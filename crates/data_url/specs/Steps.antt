@@ -2,7 +2,7 @@
 pub mod Chunks
 pub mod Classes
 pub mod Digits
-pub mod Front
+pub mod Split
 pub mod Groups
 pub mod Header
 pub mod Holding

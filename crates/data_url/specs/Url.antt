@@ -17,8 +17,8 @@ abbrev pub comma : ℕ
 comma = 44
 
 -- the text without the longest prefix of bytes that pass the test
-abbrev pub without_front : (ℕ → Bool) → List ℕ → List ℕ
-without_front p s = drop (prefix_len p s) s
+abbrev pub without_start : (ℕ → Bool) → List ℕ → List ℕ
+without_start p s = drop (prefix_len p s) s
 
 -- the text without the longest suffix of bytes that pass the test
 abbrev pub without_end : (ℕ → Bool) → List ℕ → List ℕ
@@ -30,7 +30,7 @@ is_c0_control_or_space b = nat_le b 32
 
 -- the text without C0 controls and spaces at both ends (URL, section 4.4, step 1)
 unfoldable pub trimmed_text : List ℕ → List ℕ
-trimmed_text t = without_end is_c0_control_or_space (without_front is_c0_control_or_space t)
+trimmed_text t = without_end is_c0_control_or_space (without_start is_c0_control_or_space t)
 
 -- an ASCII tab or newline (Infra, section 4.6)
 abbrev pub is_tab_or_newline : ℕ → Bool

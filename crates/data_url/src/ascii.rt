@@ -21,7 +21,7 @@ pub(crate) fn trim(text: &str) -> &str
     &text[..text.len() - low_end_len(text.as_bytes())]
 }
 
-/// How many bytes at the front are C0 controls or spaces.
+/// How many bytes at the start are C0 controls or spaces.
 fn low_front_len(bytes: &[u8]) -> usize
     ensures { result ≡ prefix_len is_c0_control_or_space bytes.now }
 {

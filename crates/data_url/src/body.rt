@@ -2,7 +2,7 @@
 
 ghost use Rattle.std.specs.Prelude.{◌+◌, ◌≡◌, false, length};
 ghost use Rattle.std.specs.Fn.{CalledAt};
-ghost use Rattle.data_url.specs.Steps.Chunks.{IsCallableUntilError, IsFront, TakesBody};
+ghost use Rattle.data_url.specs.Steps.Chunks.{IsCallableUntilError, IsBodyPrefix, TakesBody};
 ghost use Rattle.data_url.specs.Steps.Tail.{IsBodyEnd};
 ghost use Rattle.data_url.specs.Fetch.{outcome, plain_body};
 ghost use Rattle.data_url.specs.DataUrl.{Decodes};
@@ -11,17 +11,17 @@ ghost use Rattle.data_url.specs.Decoder.{state_of};
 use crate::escapes::{BUFFER_LEN, Pieces};
 use crate::forgiving_base64::{DecodeError, Decoder};
 
-/// Calls a closure with the front of a body and the pieces after it, until it returns an error. Returns this error, or the
+/// Calls a closure with the prefix of a body and the pieces after it, until it returns an error. Returns this error, or the
 /// place in the text where the body ends.
-fn decode_pieces<F, E>(front: &[u8], mut pieces: Pieces<'_>, take: &mut F) -> Result<usize, E>
+fn decode_pieces<F, E>(prefix: &[u8], mut pieces: Pieces<'_>, take: &mut F) -> Result<usize, E>
 where
     F: FnMut(&[u8]) -> Result<(), E>,
     requires callable { IsCallableUntilError F.FnMut take.old }
-    requires front { IsFront pieces.text front.now pieces }
+    requires prefix { IsBodyPrefix pieces.text prefix.now pieces }
     ensures { TakesBody (CalledAt F.FnMut) take.old pieces.entry.text result take.new }
 {
-    if !front.is_empty() {
-        take(front)?;
+    if !prefix.is_empty() {
+        take(prefix)?;
     }
     if pieces.has_ended() {
         return Ok(pieces.end());
@@ -36,10 +36,10 @@ where
     Ok(pieces.end())
 }
 
-/// Calls a closure with a body, decoded if it is base64, from its front and the pieces after it. Returns the place in the
+/// Calls a closure with a body, decoded if it is base64, from its prefix and the pieces after it. Returns the place in the
 /// text where the body ends.
 pub(crate) fn decode_body<F, E>(
-    front: &[u8],
+    prefix: &[u8],
     pieces: Pieces<'_>,
     base64: bool,
     mut write: F,
@@ -47,12 +47,12 @@ pub(crate) fn decode_body<F, E>(
 where
     F: FnMut(&[u8]) -> Result<(), E>,
     requires callable { F.IsAlwaysCallable write }
-    requires front { IsFront pieces.text front.now pieces }
+    requires prefix { IsBodyPrefix pieces.text prefix.now pieces }
     ensures { Decodes (CalledAt F.FnMut) write (length pieces.entry.text + 1)
         (outcome base64 (plain_body pieces.entry.text)) (IsBodyEnd pieces.entry.text) result.0 result.1 }
 {
     if !base64 {
-        let place = decode_pieces(front, pieces, &mut write);
+        let place = decode_pieces(prefix, pieces, &mut write);
         return (place.map_err(DecodeError::WriteError), write);
     }
     let mut decoder = Decoder::new(write);
@@ -60,7 +60,7 @@ where
         requires callable { F.IsAlwaysCallable (state_of decoder).closure }
         requires going { (state_of decoder).failed ≡ false }
     { decoder.feed(bytes) };
-    match decode_pieces(front, pieces, &mut feed) {
+    match decode_pieces(prefix, pieces, &mut feed) {
         Ok(place) => {
             let (ended, write) = decoder.finish_with();
             (ended.map(|()| place), write)

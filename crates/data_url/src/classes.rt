@@ -64,20 +64,20 @@ pub(crate) fn has(class: Class, byte: u8) -> bool
     CLASSES[byte as usize] & bit != 0
 }
 
-/// How many bytes at the front are in a class.
+/// How many bytes at the start are in a class.
 #[inline(always)]
 pub(crate) fn span(class: Class, bytes: &[u8]) -> usize
-    ensures front { result ≡ prefix_len (in_class class) bytes.now }
+    ensures prefix { result ≡ prefix_len (in_class class) bytes.now }
     ensures within { result ≤ length bytes.now }
 {
     bytes.iter().take_while(|byte| has(class, **byte)).count()
 }
 
-/// How many bytes at the front are in a class, counted in rows of sixteen. This is faster than `span` if there are
+/// How many bytes at the start are in a class, counted in rows of sixteen. This is faster than `span` if there are
 /// many.
 #[inline(always)]
 pub(crate) fn long_span(class: Class, bytes: &[u8]) -> usize
-    ensures front { result ≡ prefix_len (in_class class) bytes.now }
+    ensures prefix { result ≡ prefix_len (in_class class) bytes.now }
     ensures within { result ≤ length bytes.now }
 {
     // For each low half of a byte, the bits of the columns in which such a byte may be outside the class. A class whose

@@ -3,9 +3,9 @@
 
 ghost use Rattle.std.specs.Prelude.{◌≡◌, ◌+◌, ◌*◌, ◌≤◌, ◌++◌, [], IfNone, IfSome, IsTrue, None, length, true};
 ghost use Rattle.std.specs.Option.{option_map};
-ghost use Rattle.data_url.specs.Pieces.{IsPiece, walk_at_front, bytes_of_next};
+ghost use Rattle.data_url.specs.Pieces.{IsPiece, walk_at_start, bytes_of_next};
 ghost use Rattle.data_url.specs.Url.{after, number_sign};
-ghost use Rattle.data_url.specs.Steps.Chunks.{GivesBytes, IsFront};
+ghost use Rattle.data_url.specs.Steps.Chunks.{GivesBytes, IsBodyPrefix};
 ghost use Rattle.data_url.specs.Steps.Tail.{IsBodyEnd};
 
 mod cursor;
@@ -55,7 +55,7 @@ impl<'a> Model for Pieces<'a> {
 impl<'a> Pieces<'a> {
     /// Returns the pieces of a text, from its first byte on. The text is what follows the comma of a data: URL.
     pub fn new(text: &'a str) -> Self
-        ensures { result ≡ walk_at_front text.entry.now }
+        ensures { result ≡ walk_at_start text.entry.now }
     {
         Pieces {
             cursor: Cursor::new(text),
@@ -65,12 +65,12 @@ impl<'a> Pieces<'a> {
     /// Returns the bytes of a text before its first tab, newline, `%` or `#`, which are bytes of the body, and the pieces
     /// after them.
     #[inline(always)]
-    pub(crate) fn after_front(text: &'a str) -> (&'a [u8], Self)
-        ensures { IsFront text.entry.now result.0.now result.1 }
+    pub(crate) fn after_prefix(text: &'a str) -> (&'a [u8], Self)
+        ensures { IsBodyPrefix text.entry.now result.0.now result.1 }
     {
         let mut cursor = Cursor::new(text);
-        let front = cursor.next_front();
-        (front, Pieces { cursor })
+        let prefix = cursor.next_prefix();
+        (prefix, Pieces { cursor })
     }
 
     /// Returns the next piece of the body. Returns None if the body has ended, and from then on.

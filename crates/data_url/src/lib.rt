@@ -14,20 +14,20 @@ pub mod escapes;
 mod facts;
 pub mod forgiving_base64;
 mod fragment;
-mod front;
 mod header;
 pub mod laws;
 pub mod mime;
 mod percent;
+mod split;
 
 use ascii::trim;
 use body::decode_body;
 use escapes::{Pieces, fragment_at};
 use forgiving_base64::{DecodeError, DecodeToVecError, room_for};
 pub use fragment::FragmentIdentifier;
-use front::{after_scheme, split_at_comma};
 use header::{read_media, serialise, serialised_text, split_suffix};
 use mime::Mime;
+use split::{after_scheme, split_at_comma};
 use std::alloc::{AllocError, Global};
 use std::error::Error;
 use std::fmt;
@@ -88,20 +88,20 @@ impl<'a> DataUrl<'a> {
         let Some(rest) = after_scheme(trim(input)) else {
             return Err(DataUrlError::NotADataUrl);
         };
-        let Some(front) = split_at_comma(rest) else {
+        let Some(split) = split_at_comma(rest) else {
             return Err(DataUrlError::NoComma);
         };
-        let Ok(text) = serialise(alloc, front.header, front.is_plain) else {
+        let Ok(text) = serialise(alloc, split.header, split.is_plain) else {
             return Err(DataUrlError::OutOfMemory);
         };
-        let (media, base64) = split_suffix(serialised_text(&text, front.header));
+        let (media, base64) = split_suffix(serialised_text(&text, split.header));
         let Ok(mime_type) = read_media(alloc, media) else {
             return Err(DataUrlError::OutOfMemory);
         };
         Ok(DataUrl {
             mime_type,
             base64,
-            tail: front.tail,
+            tail: split.tail,
         })
     }
 
@@ -113,17 +113,17 @@ impl<'a> DataUrl<'a> {
         &self.mime_type
     }
 
-    /// Returns how much room to allocate first for a body that begins with `front` bytes as they are in the text: room for
+    /// Returns how much room to allocate first for a body that begins with `prefix` bytes as they are in the text: room for
     /// the whole body if it ends there.
-    fn room(&self, front: usize) -> usize
-        requires { front ≤ length (url_tail self.now) }
+    fn room(&self, prefix: usize) -> usize
+        requires { prefix ≤ length (url_tail self.now) }
     {
         let tail = self.tail.as_bytes();
-        let is_whole = front == tail.len() || tail[front] == b'#';
+        let is_whole = prefix == tail.len() || tail[prefix] == b'#';
         let len = if is_whole {
-            front
+            prefix
         } else {
-            front.max(tail.len().min(FIRST_ROOM))
+            prefix.max(tail.len().min(FIRST_ROOM))
         };
         if self.base64 { room_for(len) } else { len }
     }
@@ -152,8 +152,8 @@ impl<'a> DataUrl<'a> {
         ensures { Decodes (CalledAt F.FnMut) write_body_bytes (length (url_tail self.now) + 1)
             (url_body self.now) (IsFragmentOf (url_tail self.now)) result.0 result.1 }
     {
-        let (front, pieces) = Pieces::after_front(self.tail);
-        let (answer, write) = decode_body(front, pieces, self.base64, write_body_bytes);
+        let (prefix, pieces) = Pieces::after_prefix(self.tail);
+        let (answer, write) = decode_body(prefix, pieces, self.base64, write_body_bytes);
         match answer {
             Ok(place) => (
                 Ok(fragment_at(self.tail, place).map(FragmentIdentifier::new)),
@@ -203,12 +203,12 @@ impl<'a> DataUrl<'a> {
         ensures fragment { IfOk result (λ found. IsFragmentOf (url_tail self.now) found.1) }
         ensures error { IfErr result (IsBodyErrorOf (url_body self.now)) }
     {
-        let (front, pieces) = Pieces::after_front(self.tail);
-        let Ok(mut bytes) = Vec::with_capacity(alloc, self.room(front.len())) else {
+        let (prefix, pieces) = Pieces::after_prefix(self.tail);
+        let Ok(mut bytes) = Vec::with_capacity(alloc, self.room(prefix.len())) else {
             return Err(DecodeToVecError::OutOfMemory);
         };
         let ended = decode_body(
-            front,
+            prefix,
             pieces,
             self.base64,
             |piece: &[u8]| -> Result<(), AllocError> { bytes.extend_from_slice(piece) },

@@ -7,12 +7,12 @@ ghost use Rattle.std.specs.Str.{IsUtf8};
 ghost use Rattle.data_url.specs.Url.{without_tabs_and_newlines, percent_encoding};
 ghost use Rattle.data_url.specs.Steps.Sets.{in_set};
 
-mod rows;
+mod table;
 
 use crate::classes::lanes::rows_len;
-use rows::{others, row};
 use std::alloc::AllocError;
 use std::str;
+use table::{entry, others};
 
 /// A percent-encode set.
 #[derive(Clone, Copy)]
@@ -29,7 +29,7 @@ pub(crate) enum EncodeSet {
 const PART: usize = 128;
 
 /// The size of the buffer, in bytes: more than a part is written as.
-const ROOM: usize = 512;
+const BUFFER_LEN: usize = 512;
 
 /// Returns true only if each byte of a part of whole rows is written as it is.
 #[inline(always)]
@@ -41,20 +41,20 @@ fn is_kept(set: EncodeSet, part: &[u8]) -> bool
     rows_len(others(set), part) == part.len()
 }
 
-/// Writes a row to a place in the buffer.
+/// Writes an entry of the table to a place in the buffer.
 #[inline(always)]
-fn put(room: &mut [u8; ROOM], at: usize, row: &[u8])
+fn put(room: &mut [u8; BUFFER_LEN], at: usize, entry: &[u8])
     requires room { at + 4 ≤ 512 }
-    requires row { length row.now ≡ 4 }
-    ensures { take (at + 4) room.new ≡ take at room.old ++ row.now }
+    requires entry { length entry.now ≡ 4 }
+    ensures { take (at + 4) room.new ≡ take at room.old ++ entry.now }
 {
-    room[at..at + 4].copy_from_slice(row);
+    room[at..at + 4].copy_from_slice(entry);
 }
 
-/// Writes a part to the front of the buffer, without its tabs and newlines and percent-encoded, and
+/// Writes a part to the start of the buffer, without its tabs and newlines and percent-encoded, and
 /// returns how many bytes that takes.
 #[inline(always)]
-fn encode_part(set: EncodeSet, part: &[u8], room: &mut [u8; ROOM]) -> usize
+fn encode_part(set: EncodeSet, part: &[u8], room: &mut [u8; BUFFER_LEN]) -> usize
     requires { length part.now ≤ 128 }
     ensures few { result ≤ 512 }
     ensures written { take result room.new
@@ -63,9 +63,9 @@ fn encode_part(set: EncodeSet, part: &[u8], room: &mut [u8; ROOM]) -> usize
 {
     let mut at = 0;
     for byte in part {
-        let row = row(set, *byte);
-        put(room, at, row);
-        at += usize::from(row[3]);
+        let entry = entry(set, *byte);
+        put(room, at, entry);
+        at += usize::from(entry[3]);
     }
     at
 }
@@ -81,7 +81,7 @@ pub(crate) fn push_encoded(
         ≡ string_bytes text.old
         ++ percent_encoding (in_set set) (without_tabs_and_newlines bytes.now)) }
 {
-    let mut room = [0; ROOM];
+    let mut room = [0; BUFFER_LEN];
     let mut rest = bytes;
     while !rest.is_empty() {
         let (part, after) = rest.split_at(rest.len().min(PART));

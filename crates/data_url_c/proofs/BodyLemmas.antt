@@ -6,7 +6,7 @@ use Rattle.std.proofs.lemmas.List.{append-nil, length-map, length-take-le, take-
 use Rattle.data_url.specs.Base64.{complete_bytes, decoded, first_fault, is_valid, kind_of}
 use Rattle.data_url.specs.Fetch.{Bad, Good, Outcome, outcome, plain_body}
 use Rattle.data_url.specs.Laws.{GoesOn}
-use Rattle.data_url.specs.Pieces.{Walk, walk_at_front}
+use Rattle.data_url.specs.Pieces.{Walk, walk_at_start}
 use Rattle.data_url.proofs.api.{after_few, done_more, every_list_all, fault_byte, fault_invalid, fault_more, fault_some}
 use Rattle.data_url.proofs.api.{groups_few, left_more, none_fault, padding_more, two_feeds}
 use Rattle.data_url_c.specs.Answers.{status_of_kind}
@@ -77,7 +77,7 @@ takes_nothing s out h size =
 
 -- before the first piece nothing was fed
 pub fed_none : (s : DataUrlBase64) (text out : List ℕ) → is_good_state s ≡ true → length s.symbols ≡ 3
-    → Fed s s text out (walk_at_front text) out 0
+    → Fed s s text out (walk_at_start text) out 0
 fed_none s text out h size = record {
   read = [];
   text_is = refl;

@@ -21,7 +21,7 @@ use Rattle.data_url.proofs.api.{dropped_around, dropped_keeps, dropped_nil, drop
 use Rattle.data_url.proofs.api.{lacks_comma, rest_bytes, scheme_has_no_comma, stages_accepted, stages_no_comma}
 use Rattle.data_url.proofs.api.{stages_no_scheme, suffix_stop}
 use Rattle.data_url.specs.Url.{before, after, fragment, front, in_fragment_set, is_c0_control_or_space}
-use Rattle.data_url.specs.Url.{is_tab_or_newline, percent_encoding, trimmed_text, without_end, without_front}
+use Rattle.data_url.specs.Url.{is_tab_or_newline, percent_encoding, trimmed_text, without_end, without_start}
 use Rattle.data_url.specs.Url.{without_tabs_and_newlines}
 
 -- Trimming
@@ -37,7 +37,7 @@ end_stop p x q b f =
 
 -- the text up to the first comma, without C0 controls and spaces at its front
 abbrev pub trimmed_front : List ℕ → List ℕ
-trimmed_front a = without_front is_c0_control_or_space a
+trimmed_front a = without_start is_c0_control_or_space a
 
 -- the tail without C0 controls and spaces at its end
 abbrev pub trimmed_tail : List ℕ → List ℕ

@@ -8,12 +8,12 @@ use data_url::forgiving_base64::DecodeError;
 use std::io::Write;
 
 /// The size of the buffer, in bytes.
-pub(crate) const ROOM: usize = 4096;
+pub(crate) const BUFFER_LEN: usize = 4096;
 
 /// A buffer with the bytes of an output that are not written yet.
 #[derive(Drop)]
 pub(crate) struct Gathered {
-    bytes: [u8; ROOM],
+    bytes: [u8; BUFFER_LEN],
     len: usize,
     ghost within: { len ≤ 4096 },
 }
@@ -28,7 +28,7 @@ impl Gathered {
         ensures { waiting_bytes result ≡ [] }
     {
         Gathered {
-            bytes: [0; ROOM],
+            bytes: [0; BUFFER_LEN],
             len: 0,
         }
     }
@@ -60,12 +60,12 @@ impl Gathered {
         ensures { Gathers piece.now (waiting_bytes self.old) (waiting_bytes self.new)
             (W.contents writer.old) (W.contents writer.new) result }
     {
-        if piece.len() <= ROOM - self.len {
+        if piece.len() <= BUFFER_LEN - self.len {
             self.push(piece);
             return Ok(());
         }
         self.flush(writer)?;
-        if piece.len() >= ROOM {
+        if piece.len() >= BUFFER_LEN {
             return write_all(writer, piece);
         }
         self.push(piece);

@@ -10,7 +10,7 @@ use Rattle.data_url.specs.{DataUrl.{Decodes, HandsOut, IsUrlOf, url_body, url_ta
 use Rattle.data_url.specs.{Decoder.{Feeds, Finishes, State, start}, Run.{Call, IsRun, joined_pieces, refusal, IsPrefix}}
 use Rattle.data_url.specs.{Errors.{IsRefused}, Fetch.{Good, outcome_bytes, plain_body, Bad, outcome, Outcome, tail_of}}
 use Rattle.data_url.specs.{Percent.{begins_with_escape, percent_decoding}, Pieces.{Walk}, declared.DataUrl.{DataUrl}}
-use Rattle.data_url.specs.Steps.Chunks.{IsFront, GivesBytes, IsCallableUntilError, Takes, TakesBody}
+use Rattle.data_url.specs.Steps.Chunks.{IsBodyPrefix, GivesBytes, IsCallableUntilError, Takes, TakesBody}
 use Rattle.data_url.specs.{Steps.Whole.{DecodesText}, declared.forgiving_base64.DecodeError.{DecodeError}}
 use Rattle.data_url.specs.Url.{before, without_tabs_and_newlines, front, after, trimmed_text}
 use Rattle.data_url.specs.declared.forgiving_base64.DecodeError.TheVariants.{WriteError, InvalidBase64}
@@ -60,9 +60,9 @@ module _ {F E : Type 0} (step : F → List ℕ → Result (Unit {0}) E → F →
       }
 
   -- the closure was called with the front of the body
-  pub going_front : {f g : F} {text bytes : List ℕ} {w : Walk} (answer : Result (Unit {0}) E) → IsFront text bytes w
+  pub going_prefix : {f g : F} {text bytes : List ℕ} {w : Walk} (answer : Result (Unit {0}) E) → IsBodyPrefix text bytes w
       → 0 < length bytes → step f bytes answer g → Going f text w answer g
-  going_front {g = g} {bytes = bytes} answer i some s = record {
+  going_prefix {g = g} {bytes = bytes} answer i some s = record {
     run = record { piece = bytes; answer = answer; after = g } ∷ [];
     ran = (s, λ e. refl, refl);
     answered = or_none (result_err answer);
@@ -73,7 +73,7 @@ module _ {F E : Type 0} (step : F → List ℕ → Result (Unit {0}) E → F →
   }
 
   -- the front of the body is empty, and the closure was not called
-  pub going_none : {f : F} {text : List ℕ} (bytes : List ℕ) {w : Walk} → IsFront text bytes w → length bytes ≡ 0
+  pub going_none : {f : F} {text : List ℕ} (bytes : List ℕ) {w : Walk} → IsBodyPrefix text bytes w → length bytes ≡ 0
       → Going f text w (Ok tt) f
   going_none {f} bytes i none = grind (arith, nil_from_length)
 

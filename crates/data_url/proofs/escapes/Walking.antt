@@ -6,7 +6,7 @@ use Rattle.std.{proofs.Common.{take-add, slice_range, IfNone}, proofs.lemmas.Str
 use Rattle.std.proofs.lemmas.List.{drop_more, drop_all, take_more_set, append_cancel_right}
 use Rattle.data_url.specs.{Fetch.{plain_body}, Steps.Digits.{EscapeAt, cleaned}, declared.escapes.Piece.{Piece}}
 use Rattle.data_url.specs.Pieces.{Walk, text_of, IsStretch, bytes_of, has_ended, is_slice_end, walk_of}
-use Rattle.data_url.specs.{Steps.Chunks.{IsFront, IsOver, Takes}, Steps.Tail.{BeginsFragment, IsBodyEnd, rest_fragment}}
+use Rattle.data_url.specs.{Steps.Chunks.{IsBodyPrefix, IsOver, Takes}, Steps.Tail.{BeginsFragment, IsBodyEnd, rest_fragment}}
 use Rattle.data_url.specs.Steps.Walk.{Ended, EndsAt, Gathers, GoesOn, IsClear, IsNextMark, IsPart, Knows, KnowsAhead}
 use Rattle.data_url.specs.Steps.Walk.{Looking, LooksOn, MayGather, Moves, Pays, Reads, Searching, Spells}
 use Rattle.data_url.specs.{Url.{before, after, front, without_tabs_and_newlines}, declared.escapes.cursor.Ahead.{Ahead}}
@@ -154,7 +154,7 @@ hash_at {text} {place} h n = grind (arith, drop_more text place 0)
 
 -- the bytes before the first marked byte are the front of the body
 pub front_is : {text bytes : List ℕ} {w : Walk} → w.text ≡ text → w.rest ≡ plain_body (drop w.place text)
-    → IsNextMark text 0 w.place → bytes ≡ slice_range text 0 w.place → IsFront text bytes w
+    → IsNextMark text 0 w.place → bytes ≡ slice_range text 0 w.place → IsBodyPrefix text bytes w
 front_is {text} {bytes} {w} same rest m is =
     let reads = (spells_clear text 0 w.place m.forward m.within m.clear).reads in grind arith
 

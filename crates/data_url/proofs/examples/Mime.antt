@@ -116,11 +116,12 @@ x_records =
 
 -- Texts without a record
 
--- the type is empty, or the subtype
+-- a text whose type is empty has no record
 no_type : (s : List ℕ) → type_in (trimmed_of is_http_whitespace s) ≡ [] → HasNoRecord s
 unfolding on_literals
 no_type s e m h = grind (arith, h.head.is_type, has_parts s h.type_ h.subtype h.parameters h.head)
 
+-- a text whose subtype is empty has no record
 no_subtype : (s : List ℕ) → subtype_in (trimmed_of is_http_whitespace s) ≡ [] → HasNoRecord s
 unfolding on_literals
 no_subtype s e m h = grind (arith, h.head.is_subtype, has_parts s h.type_ h.subtype h.parameters h.head)

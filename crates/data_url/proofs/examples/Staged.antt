@@ -71,6 +71,7 @@ results : map (λ row. staged row.0) table ≡ map (λ row. row.1) table
 unfolding on_literals
 results = refl
 
+-- a tail keeps its tabs, and the space at the end of the URL is not part of it
 tail_keeps_tabs : tail_of (32 ∷ codes "data:," ++ (9 ∷ codes "x,#" ++ (9 ∷ codes "y "))) ≡ Some
     (9 ∷ codes "x,#" ++ (9 ∷ codes "y"))
 unfolding on_literals

@@ -18,7 +18,7 @@ use Rattle.data_url.specs.Steps.Header.{IsPrintable, HasNoLastSpace, IsPathAndQu
 use Rattle.data_url.specs.Url.{encoded_byte, encoded_path, in_path_set, in_query_set, is_tab_or_newline}
 use Rattle.data_url.specs.Url.{is_c0_control_or_space, without_end, before, after, without_tabs_and_newlines}
 use Rattle.data_url.specs.Url.{percent_encoding, after_scheme, cleaned_text, serialised, trimmed_text, with_query}
-use Rattle.data_url.proofs.{front.Cuts.{cut_at}, header.Stages.{low_end, printable_take}, percent.Encoding.{encoded}}
+use Rattle.data_url.proofs.{split.Cuts.{cut_at}, header.Stages.{low_end, printable_take}, percent.Encoding.{encoded}}
 use Rattle.data_url.proofs.percent.Encoding.{encoded_cons, encoded_nil, path_cons, path_nil, percent_encoding-append}
 use Rattle.data_url.proofs.texts.Bytes.{before_all, before_at, after-dropped_none, after_at, after_none, dropped_around}
 use Rattle.data_url.proofs.texts.Bytes.{before_other, after_other, is_cut}

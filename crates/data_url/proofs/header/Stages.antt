@@ -12,7 +12,7 @@ use Rattle.data_url.specs.Fetch.{NoScheme, outcome, plain_body, staged}
 use Rattle.data_url.specs.Fetch.{before_base64, has_base64_suffix, media_of, mime_text, with_plain, Accepted, NoComma}
 use Rattle.data_url.specs.Fetch.{is_space, stripped_header, encoded_body, header_of, staged_front, tail_of}
 use Rattle.data_url.specs.Mime.{HasNoRecord, Record, default_record, BeginsParameters, IsHead, IsRecordOfParts}
-use Rattle.data_url.specs.{MimeType.{record_of}, Steps.Front.{HasNoScheme, IsHeaderAndTail, IsSchemeAndRest}}
+use Rattle.data_url.specs.{MimeType.{record_of}, Steps.Split.{HasNoScheme, IsHeaderAndTail, IsSchemeAndRest}}
 use Rattle.data_url.specs.{Percent.{percent_decoding}, Steps.Header.{IsPrintable, header_text, IsHeaderOf, IsRecordFor}}
 use Rattle.data_url.specs.Url.{before, after, is_c0_control_or_space, percent_encoding, trimmed_text, after_scheme}
 use Rattle.data_url.specs.Url.{cleaned_text, without_tabs_and_newlines, fragment, front, serialised, in_fragment_set}

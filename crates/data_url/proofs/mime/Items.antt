@@ -8,7 +8,7 @@ use Rattle.data_url.specs.Mime.{BeginsParameters, DoesNotBegin, Every, GivesValu
 use Rattle.data_url.specs.Mime.{lone_equals, nothing, plain, quoted, unclosed, unless_empty, IsHead}
 use Rattle.data_url.specs.Steps.Parsing.{Reading, after_mark, front_of, given_reading, in_name, in_value, item_in}
 use Rattle.data_url.specs.Steps.Parsing.{named, plain_reading, quoted_reading, reading, reading_from, reading_in}
-use Rattle.data_url.specs.Url.{without_end, without_front}
+use Rattle.data_url.specs.Url.{without_end, without_start}
 use Rattle.data_url.proofs.mime.TokenTexts.{IsRead, closed_reading, is_closed, is_open, is_read, open_reading}
 use Rattle.data_url.proofs.{mime.TokenTexts.{every_token}, texts.CodePoints.{after_begins, front_is, front_passes}}
 
@@ -65,7 +65,7 @@ is_quoted_reading s (is_open v h) = rw (open_reading s v h)
     (record { tail = 61 ∷ 34 ∷ s; joined = sym (append-nil (61 ∷ 34 ∷ s)); gives = unclosed s h; begins = tt })
 is_quoted_reading s (is_closed q v w e h) =
     let junk = front_of in_value w in
-    let after = without_front in_value w in
+    let after = without_start in_value w in
     let is : quoted_reading s ≡ record { value = Some v; rest = after } = cc (closed_reading q v w h) in
     rw is (record {
       tail = 61 ∷ 34 ∷ (q ++ 34 ∷ junk);
@@ -86,7 +86,7 @@ not_begins_front p q (c ∷ s) h = elim (q c) as (λ v. DoesNotBegin p (take (co
 is_plain_reading : (s : List ℕ) → DoesNotBegin is_quote s → IsReading (61 ∷ s) (plain_reading s)
 is_plain_reading s h =
     let gives = plain (front_of in_value s) (front_passes in_value s) (not_begins_front is_quote in_value s h) in
-    let begins = begins_from (without_front in_value s) (after_begins in_value s) in
+    let begins = begins_from (without_start in_value s) (after_begins in_value s) in
     record { tail = 61 ∷ front_of in_value s; joined = grind (arith, take-append-drop); gives = gives; begins = begins }
 
 -- '=' and any text give the value that is read from the text
@@ -119,7 +119,7 @@ pub record HasParameterBefore (s : List ℕ) (item : Item) (rest : List ℕ) : T
 pub has_parameter : (s : List ℕ) → HasParameterBefore s (item_in s) (reading_in s).rest
 has_parameter s =
     let x = named s in
-    let i = is_reading (without_front in_name x) (after_begins in_name x) in
+    let i = is_reading (without_start in_name x) (after_begins in_name x) in
     let gap = front_of is_http_whitespace s in
     let name = front_of in_name x in
     record {
@@ -210,7 +210,7 @@ has_one_item_list r b = grind (arith, has_items, items_are)
 
 -- the text without the longest prefix and the longest suffix of code points that pass
 abbrev pub trimmed_of : (ℕ → Bool) → List ℕ → List ℕ
-trimmed_of p s = without_end p (without_front p s)
+trimmed_of p s = without_end p (without_start p s)
 
 -- the type of a trimmed text
 abbrev pub type_in : List ℕ → List ℕ
@@ -218,7 +218,7 @@ type_in t = front_of is_token t
 
 -- the text after the slash that follows the type
 abbrev pub after_slash : List ℕ → List ℕ
-after_slash t = drop 1 (without_front is_token t)
+after_slash t = drop 1 (without_start is_token t)
 
 -- the subtype of a trimmed text
 abbrev pub subtype_in : List ℕ → List ℕ
@@ -226,7 +226,7 @@ subtype_in t = front_of is_token (after_slash t)
 
 -- the text of the parameters of a trimmed text
 abbrev pub parameters_in : List ℕ → List ℕ
-parameters_in t = without_front is_http_whitespace (without_front is_token (after_slash t))
+parameters_in t = without_start is_http_whitespace (without_start is_token (after_slash t))
 
 -- HTTP whitespace and then a text that is empty or begins with ';' do not begin with a token code point
 gap_no_token : (gap r : List ℕ) → Every is_http_whitespace gap → BeginsParameters r → DoesNotBegin is_token (gap ++ r)
@@ -237,7 +237,7 @@ gap_no_token (c ∷ gap) r g b = grind (arith, eqb-true)
 -- the parts that are read from t
 pub record HasParts (t type_ subtype parameters : List ℕ) : Type 0 where
   pub type_is : type_in t ≡ type_
-  pub slash : after_mark 47 (without_front is_token t) ≡ Some (after_slash t)
+  pub slash : after_mark 47 (without_start is_token t) ≡ Some (after_slash t)
   pub subtype_is : subtype_in t ≡ subtype
   pub parameters_are : parameters_in t ≡ parameters
 

@@ -9,7 +9,7 @@ use Rattle.std.{proofs.lemmas.List.Folds.{list_all-append}, proofs.lemmas.Str.{c
 use Rattle.std.proofs.lemmas.List.Sums.{prefix_len-le-length, prefix_len_passes, suffix_len-le-length}
 use Rattle.std.proofs.lemmas.Str.{chars-append, chars-nil, chars_past_char, encodes-chars, IsUtf8-encode}
 use Rattle.std.{specs.Char.{IsScalar, to_ascii_lowercase}, specs.List.{list_all, prefix_len}, specs.Str.{IsUtf8, chars}}
-use Rattle.data_url.specs.{CodePoints.{is_http_whitespace, is_quotable, is_token}, Url.{without_end, without_front}}
+use Rattle.data_url.specs.{CodePoints.{is_http_whitespace, is_quotable, is_token}, Url.{without_end, without_start}}
 use Rattle.data_url.specs.Mime.{Every, unless_empty, BeginsParameters, IsHead, is_token_text, valid_of, DoesNotEnd}
 use Rattle.data_url.specs.Steps.Parsing.{front_of, in_value, is_escaped, is_quotable_byte, is_unquoted_byte}
 use Rattle.data_url.specs.Steps.Parsing.{item_in, named, pair_if, reading, reading_in, IsTrimmedEnd}
@@ -66,7 +66,7 @@ module _ {text bytes : List ℕ} {q more : ℕ} (u : IsUtf8 text) (e : bytes ≡
   front_len = grind (arith, take_rest, front_further, prefix_len-le-length, prefix_len_passes)
 
   -- a UTF-8 text can be cut there
-  pub cut_plain : IsCutInto text (q + more) (front_of in_value (chars text)) (without_front in_value (chars text))
+  pub cut_plain : IsCutInto text (q + more) (front_of in_value (chars text)) (without_start in_value (chars text))
   cut_plain = rw front_len (cut_front in_value values_steady text u)
 
   module _ {front t : List ℕ} {b : Bool} (w : IsUtf8 t) (h : front ≡ take (q + more) text) (k : t ≡ take
@@ -213,7 +213,7 @@ module _ {s t a x : List ℕ} (first : IsTokens t a x) (e : t ≡ trimmed_of is_
         absurd (token_not_nil b h.is_subtype (cc (p.subtype_is, slash_is first y slash)))
 
     module _ {b z : List ℕ} (bs : List ℕ) (second : IsTokens y b z) (r : chars bs
-        ≡ without_front is_http_whitespace z) where
+        ≡ without_start is_http_whitespace z) where
       -- if the text after the subtype and HTTP whitespace is not empty and does not begin with ';', there is no head
       pub no_parameters : (length (chars bs) == 0) ≡ false → after_mark 59 (chars bs) ≡ None → HasNoHead s
       no_parameters n m a' b' c h =

@@ -8,7 +8,7 @@ use Rattle.std.{proofs.Math.Seq.{take-append_seam, take-length, drop-append-add}
 use Rattle.std.{proofs.lemmas.List.Sums.{prefix_len-le-length}, specs.List.{list_all, list_any, prefix_len, suffix_len}}
 use Rattle.std.proofs.lemmas.Str.{chars-IsAscii, encodes-IsAscii, encodes-chars, chars-nil, chars_past_char}
 use Rattle.std.proofs.lemmas.Str.{encode_ascii, IsUtf8-drop, IsCharBoundary-before_ascii, IsCharBoundary-after_ascii}
-use Rattle.data_url.specs.{CodePoints.{is_http_whitespace, is_token}, Url.{without_front}}
+use Rattle.data_url.specs.{CodePoints.{is_http_whitespace, is_token}, Url.{without_start}}
 use Rattle.data_url.specs.Mime.{Every, is_token_text, Quoted, QuotedOpen, after_backslash, nothing_quoted, as_itself}
 use Rattle.data_url.specs.Steps.Parsing.{IsTokens, in_name, in_value, quoted_len, quoted_reading, unescaped}
 use Rattle.data_url.proofs.texts.CodePoints.{IsCutInto, IsEnd, IsSteady, cut_end, cut_front, every_ascii, front_passes}
@@ -128,7 +128,7 @@ quoted_open q v (inr (q', v', t, e, h)) = grind (arith, quoted_before q' v' (92 
 
 -- a quoted text, its closing quote and w are read as its value and w from its first ';' on
 pub closed_reading : (q v w : List ℕ) → Quoted q v
-    → quoted_reading (q ++ 34 ∷ w) ≡ record { value = Some v; rest = without_front in_value w }
+    → quoted_reading (q ++ 34 ∷ w) ≡ record { value = Some v; rest = without_start in_value w }
 closed_reading q v w h =
     let n : quoted_len false (q ++ 34 ∷ w) ≡ length q = grind (arith, quoted_before q v (34 ∷ w) h) in
     let d : drop (suc (length q)) (q ++ 34 ∷ w) ≡ w = grind (arith, drop-append-add q (34 ∷ w) 1) in

@@ -10,7 +10,7 @@ use Rattle.std.{proofs.lemmas.Grind.{flat_map-append}, proofs.lemmas.Str.Ascii.{
 use Rattle.std.{proofs.lemmas.List.{nil_from_length, take_more}, proofs.lemmas.Str.{IsAscii-append, IsUtf8-from_ascii}}
 use Rattle.std.{specs.List.{AllByRecursion, list_all}, specs.Str.{bytes_eq, IsAscii, IsUtf8}}
 use Rattle.data_url.specs.{Percent.{percent_decoding}, declared.percent.EncodeSet.TheVariants.{Fragment, Path, Query}}
-use Rattle.data_url.specs.{Steps.Header.{header_parts, header_text}, Steps.Sets.{IsRow, byte_encoding, in_set}}
+use Rattle.data_url.specs.{Steps.Header.{header_parts, header_text}, Steps.Sets.{IsEntry, byte_encoding, in_set}}
 use Rattle.data_url.specs.Url.{in_path_end_set, percent_encoding, serialised, with_query, without_tabs_and_newlines}
 use Rattle.data_url.specs.Url.{in_path_set, in_query_set, before, after, encoded_byte, encoded_path, hex_digit}
 use Rattle.data_url.specs.declared.percent.EncodeSet.{EncodeSet}
@@ -20,22 +20,22 @@ use Rattle.data_url.proofs.texts.Bytes.{dropped_passes, without_tabs_and_newline
 use Rattle.data_url.proofs.texts.Bytes.{first_byte, before-append, before_at, before_nil, before_other, before_same}
 
 -- the row of a byte in a table
-abbrev pub row_at : List ℕ → ℕ → List ℕ
-row_at rows b = take (4 * b + 4 - 4 * b) (drop (4 * b) rows)
+abbrev pub entry_at : List ℕ → ℕ → List ℕ
+entry_at rows b = take (4 * b + 4 - 4 * b) (drop (4 * b) rows)
 
 -- the row has four bytes: the encoding of its byte at the start, and the length of that encoding at the end
-abbrev is_row : (ℕ → Bool) → ℕ → List ℕ → Bool
-is_row p b row = (length row == 4) && ((slice_index row 3 == length (byte_encoding p b)) && bytes_eq
+abbrev is_entry : (ℕ → Bool) → ℕ → List ℕ → Bool
+is_entry p b row = (length row == 4) && ((slice_index row 3 == length (byte_encoding p b)) && bytes_eq
     (take (slice_index row 3) row) (byte_encoding p b))
 
--- a list that passes `is_row` is the row of its byte
-row_of_test : (p : ℕ → Bool) (b : ℕ) (row : List ℕ) → is_row p b row ≡ true → IsRow p b row
-row_of_test p b row h = grind (arith, eqb-true)
+-- a list that passes `is_entry` is the row of its byte
+entry_of_test : (p : ℕ → Bool) (b : ℕ) (row : List ℕ) → is_entry p b row ≡ true → IsEntry p b row
+entry_of_test p b row h = grind (arith, eqb-true)
 
 -- if each row of a table passes this test, each is the row of its byte
-pub row_by : (p : ℕ → Bool) (rows : List ℕ) → agree_below (λ b. is_row p b (row_at rows b)) (λ _. true) 256 ≡ true
-    → (b : ℕ) → b < 256 → IsRow p b (row_at rows b)
-row_by p rows h b l = row_of_test p b (row_at rows b) (agree_below_at (λ b. is_row p b (row_at rows b))
+pub row_by : (p : ℕ → Bool) (rows : List ℕ) → agree_below (λ b. is_entry p b (entry_at rows b)) (λ _. true) 256 ≡ true
+    → (b : ℕ) → b < 256 → IsEntry p b (entry_at rows b)
+row_by p rows h b l = entry_of_test p b (entry_at rows b) (agree_below_at (λ b. is_entry p b (entry_at rows b))
     (λ _. true) 256 b h l)
 
 -- if each byte is marked or written as it is, a byte without a mark is written as it is
@@ -316,7 +316,7 @@ pub record PutTo (p : ℕ → Bool) (s : List ℕ) (i : ℕ) (room : List ℕ) (
 
 -- if the row of byte i is put after them, so are the bytes before byte i + 1
 pub put_more : (p : ℕ → Bool) (s : List ℕ) (i : ℕ) (room : List ℕ) (at : ℕ) (row room' : List ℕ) → PutTo p s i room at
-    → i < length s → at ≤ 512 → IsRow p (get_or s i 0) row → length room' ≡ 512
+    → i < length s → at ≤ 512 → IsEntry p (get_or s i 0) row → length room' ≡ 512
     → take (at + 4) room' ≡ take at room ++ row → PutTo p s (i + 1) room' (at + slice_index row 3)
 put_more p s i room at row room' m l within r n h =
     let width = slice_index row 3 in

@@ -8,7 +8,7 @@ use Rattle.std.proofs.lemmas.Str.{IsUtf8-take, chars-append}
 use Rattle.std.proofs.lemmas.Str.{chars-encodes, encodes-append, encodes-chars, IsCharBoundary-at_seam, scalars-chars}
 use Rattle.std.proofs.lemmas.Str.{encode_ascii, chars-nil, length-le-encodes, chars-IsAscii, IsUtf8-from_ascii}
 use Rattle.data_url.specs.{Mime.{DoesNotBegin, DoesNotEnd, Every}, Steps.Parsing.{IsTrimmedEnd, front_of}}
-use Rattle.data_url.specs.Url.{is_c0_control_or_space, without_end, without_front}
+use Rattle.data_url.specs.Url.{is_c0_control_or_space, without_end, without_start}
 use lib.Utf8.{encode}
 use mathlib.Core.List.{reverse_aux}
 
@@ -20,7 +20,7 @@ front_len p (c ∷ a) b h e = grind (arith, front_len p a b h.1 e)
 
 -- a is then the longest prefix, and b the text after it
 pub front_is : (p : ℕ → Bool) (a b : List ℕ) → Every p a → DoesNotBegin p b → (front_of p (a ++ b) ≡ a) ×
-    (without_front p (a ++ b) ≡ b)
+    (without_start p (a ++ b) ≡ b)
 front_is p a b h e = grind (arith, front_len, take-append_seam, drop-append_seam)
 
 -- each code point of the longest prefix that passes does pass
@@ -32,7 +32,7 @@ front_passes p (c ∷ s) = elim (p c) as (λ v. p c ≡ v → Every p (take (con
 ] refl
 
 -- the text after the longest prefix that passes does not begin with a code point that passes
-pub after_begins : (p : ℕ → Bool) (s : List ℕ) → DoesNotBegin p (without_front p s)
+pub after_begins : (p : ℕ → Bool) (s : List ℕ) → DoesNotBegin p (without_start p s)
 after_begins p [] = tt
 after_begins p (c ∷ s) = elim (p c) as (λ v. p c ≡ v → DoesNotBegin p (drop (cond v (1 + prefix_len p s) 0) (c ∷ s))) [
   | true ↦ λ e. rw one-add (after_begins p s)
@@ -143,14 +143,14 @@ cut_into bs xs ys n u e l =
 
 -- a UTF-8 text can be cut after its longest prefix that passes
 pub cut_front : (p : ℕ → Bool) → IsSteady p → (bs : List ℕ) → IsUtf8 bs
-    → IsCutInto bs (prefix_len p bs) (front_of p (chars bs)) (without_front p (chars bs))
+    → IsCutInto bs (prefix_len p bs) (front_of p (chars bs)) (without_start p (chars bs))
 cut_front p s bs u = cut_into bs _ _ (prefix_len p bs) u (sym (take-append-drop (prefix_len p (chars bs)) (chars bs)))
     (ap (prefix_len p) (sym (encodes-chars bs u)) ∙ front_encodes p s (chars bs))
 
 -- the parts of a UTF-8 text that is cut there, as code points
 pub cut_by : {p : ℕ → Bool} {bs bytes front after : List ℕ} {n : ℕ} → IsSteady p → IsUtf8 bs → n ≡ prefix_len p bytes
     → bytes ≡ bs → front ≡ take n bs → after ≡ drop n bs
-    → (chars front ≡ front_of p (chars bs)) × (chars after ≡ without_front p (chars bs))
+    → (chars front ≡ front_of p (chars bs)) × (chars after ≡ without_start p (chars bs))
 cut_by {p = p} {bs = bs} s u e b f g = grind (arith, cut_front)
 
 -- a text of no bytes has no code points

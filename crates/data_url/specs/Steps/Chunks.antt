@@ -27,7 +27,7 @@ abbrev pub GivesBytes : Walk → Option (Bor (List ℕ)) → Walk → Type 0
 GivesBytes w given w' = MatchOption given (IsOver w w') (λ bytes. Takes w bytes.now w')
 
 -- the body of the text begins with these bytes, and goes on with the walk
-pub record IsFront (text bytes : List ℕ) (w : Walk) : Type 0 where
+pub record IsBodyPrefix (text bytes : List ℕ) (w : Walk) : Type 0 where
   pub text_is : w.text ≡ text
   pub body_is : plain_body text ≡ bytes ++ w.rest
   pub few : length bytes ≤ w.place

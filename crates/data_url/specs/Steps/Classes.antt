@@ -1,7 +1,7 @@
 -- Classes of bytes, which are looked up in tables.
 use Rattle.std.specs.Prelude.{◌/◌, ◌<◌, ◌==◌, ◌≡◌, Bool, List, bit_and, false, not, slice_index, ℕ}
 use Rattle.data_url.specs.CodePoints.{is_http_whitespace, is_token}
-use Rattle.data_url.specs.Steps.Front.{is_plain_path}
+use Rattle.data_url.specs.Steps.Split.{is_plain_path}
 use Rattle.data_url.specs.Steps.Parsing.{is_escaped, is_quotable_byte, is_unquoted_byte}
 use Rattle.data_url.specs.declared.classes.Class.TheVariants.{PlainPath, Quotable, Token, Unescaped, Unquoted, Whitespace}
 use Rattle.data_url.specs.declared.classes.Class.{Class}

@@ -6,7 +6,7 @@ use Rattle.std.specs.Prelude.{[], if◌then◌else◌, ◌&&◌, ◌++◌, ◌==
 use Rattle.std.specs.Str.{chars}
 use Rattle.data_url.specs.CodePoints.{ends_name, is_http_whitespace, is_quotable, is_semicolon, is_token}
 use Rattle.data_url.specs.Mime.{DoesNotEnd, Every, IsHead, Item, Pair, has_name, is_lowercase_name, is_token_text, unless_empty, valid_of}
-use Rattle.data_url.specs.Url.{without_end, without_front}
+use Rattle.data_url.specs.Url.{without_end, without_start}
 use Rattle.data_url.specs.declared.mime.parse.Parameter.{Parameter}
 use Rattle.data_url.specs.declared.mime.values.Value.TheVariants as slices
 use Rattle.data_url.specs.declared.mime.values.Value.{Value}
@@ -18,7 +18,7 @@ front_of p s = take (prefix_len p s) s
 -- s is its longest prefix of token code points, which is not empty, and then rest
 pub record IsTokens (s tokens rest : List ℕ) : Type 0 where
   pub front : front_of is_token s ≡ tokens
-  pub after : without_front is_token s ≡ rest
+  pub after : without_start is_token s ≡ rest
   pub token : IsTrue (is_token_text tokens)
 
 -- t is s without the longest suffix of code points that pass
@@ -62,14 +62,14 @@ pub record Reading : Type 0 where
 abbrev pub plain_reading : List ℕ → Reading
 plain_reading s = record {
   value = unless_empty (without_end is_http_whitespace (front_of in_value s));
-  rest = without_front in_value s;
+  rest = without_start in_value s;
 }
 
 -- the value in the text after a '"'
 abbrev pub quoted_reading : List ℕ → Reading
 quoted_reading s = record {
   value = Some (unescaped false (take (quoted_len false s) s));
-  rest = without_front in_value (drop (suc (quoted_len false s)) s);
+  rest = without_start in_value (drop (suc (quoted_len false s)) s);
 }
 
 -- the value in a text, from the text after its '"' if it begins with one
@@ -88,11 +88,11 @@ reading s (Some given) = given_reading given
 
 -- the text of a name and more, from the text after a ';'
 abbrev pub named : List ℕ → List ℕ
-named s = without_front is_http_whitespace s
+named s = without_start is_http_whitespace s
 
 -- the value of a parameter and the text after it, from the text after its ';'
 abbrev pub reading_in : List ℕ → Reading
-reading_in s = reading (without_front in_name (named s)) (after_mark 61 (without_front in_name (named s)))
+reading_in s = reading (without_start in_name (named s)) (after_mark 61 (without_start in_name (named s)))
 
 -- the item of a parameter, from the text after its ';'
 abbrev pub item_in : List ℕ → Item

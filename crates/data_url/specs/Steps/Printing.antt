@@ -5,7 +5,7 @@ use Rattle.std.specs.Str.{IsUtf8}
 use Rattle.std.specs.declared.fmt.Error.{Error}
 use Rattle.std.specs.declared.fmt.Formatter.{Formatter}
 use Rattle.data_url.specs.declared.mime.line.Line.{Line}
-use Rattle.data_url.specs.declared.mime.line.TheConstants.{ROOM}
+use Rattle.data_url.specs.declared.mime.line.TheConstants.{BUFFER_LEN}
 
 -- the bytes in the buffer
 abbrev pub held : Line → List ℕ
@@ -13,7 +13,7 @@ held line = take line.len line.room
 
 -- these bytes fit into the buffer, and are UTF-8
 pub record IsHeld (line : Line) : Type 0 where
-  pub fits : line.len ≤ ROOM
+  pub fits : line.len ≤ BUFFER_LEN
   pub text : IsUtf8 (held line)
 
 -- what the line held and a text are partly written to f, if f indents nothing, and the rest is in the buffer

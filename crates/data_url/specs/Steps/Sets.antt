@@ -16,7 +16,7 @@ byte_encoding p b = if is_tab_or_newline b then [] else encoded_byte p b
 
 -- a row of four bytes: the encoding of its byte at the start, and the length of that encoding at the
 -- end
-pub record IsRow (p : ℕ → Bool) (b : ℕ) (row : List ℕ) : Type 0 where
+pub record IsEntry (p : ℕ → Bool) (b : ℕ) (row : List ℕ) : Type 0 where
   pub four : length row ≡ 4
   pub len_is : slice_index row 3 ≡ length (byte_encoding p b)
   pub begins : take (slice_index row 3) row ≡ byte_encoding p b

@@ -24,11 +24,11 @@ fn marks_at(others: [u8; 16], bytes: &[u8], at: usize) -> u64
     (low & high).simd_ne(u8x16::splat(0)).to_bitmask()
 }
 
-/// Returns the length of some whole rows at the front whose bytes are all in a class.
+/// Returns the length of some whole rows at the start whose bytes are all in a class.
 #[inline(always)]
 pub(crate) fn rows_len(others: [u8; 16], bytes: &[u8]) -> usize
     ensures within { result ≤ length bytes.now }
-    ensures front { AreOf others bytes.now result }
+    ensures prefix { AreOf others bytes.now result }
 {
     let mut at = 0;
     while bytes.len() - at >= ROW && marks_at(others, bytes, at) == 0 {

@@ -3,8 +3,8 @@
 #![tactic(auto, using(crate::proofs::escapes::Walking::walks))]
 
 ghost use Rattle.std.specs.Prelude.{ℕ, [], ◌≡◌, ◌+◌, ◌<◌, ◌≤◌, IsTrue, drop, length, slice_index, true};
-ghost use Rattle.data_url.specs.Pieces.{is_slice_end, text_of, walk_at_front, walk_of};
-ghost use Rattle.data_url.specs.Steps.Chunks.{GivesBytes, IsFront};
+ghost use Rattle.data_url.specs.Pieces.{is_slice_end, text_of, walk_at_start, walk_of};
+ghost use Rattle.data_url.specs.Steps.Chunks.{GivesBytes, IsBodyPrefix};
 ghost use Rattle.data_url.specs.Steps.Walk.{Gathering, Gathers, GoesOn, HasRoom, IsGathered, IsNear, IsPart, IsWide, Knows, KnowsAhead, Looking, LooksOn, MayGather, Moves, Searching, Spells};
 ghost use Rattle.data_url.specs.Steps.Window.{is_marked};
 
@@ -45,9 +45,9 @@ pub(super) struct Cursor<'a> {
 }
 
 impl<'a> Cursor<'a> {
-    /// A walk that begins at the front of a text.
+    /// A walk that begins at the start of a text.
     pub(super) fn new(text: &'a str) -> Self
-        ensures walk { walk_of result ≡ walk_at_front text.entry.now }
+        ensures walk { walk_of result ≡ walk_at_start text.entry.now }
         ensures looking { Looking result.source result.block 0 0 }
         ensures knows { Knows result }
     {
@@ -65,10 +65,10 @@ impl<'a> Cursor<'a> {
 
     /// The bytes before the first marked byte. The walk goes there.
     #[inline(always)]
-    pub(super) fn next_front(&mut self) -> &'a [u8]
-        requires front { self.old.place ≡ 0 }
+    pub(super) fn next_prefix(&mut self) -> &'a [u8]
+        requires start { self.old.place ≡ 0 }
         requires looking { Looking self.old.source self.old.block 0 0 }
-        ensures front { IsFront (text_of self.old) result.now (walk_of self.new) }
+        ensures prefix { IsBodyPrefix (text_of self.old) result.now (walk_of self.new) }
         ensures knows { Knows self.new }
     {
         let mark = self.block.next_mark(&mut self.source, 0);

@@ -72,7 +72,7 @@ pub(crate) fn decode(text: &[u8]) -> [u8; 48]
     let second = decode_row(row(text, 16));
     let third = decode_row(row(text, 32));
     let fourth = decode_row(row(text, 48));
-    let front = first.shuffle(
+    let upper = first.shuffle(
         second,
         [0, 1, 2, 3, 4, 5, 6, 7, 8, 9, 10, 11, 16, 17, 18, 19],
     );
@@ -80,13 +80,13 @@ pub(crate) fn decode(text: &[u8]) -> [u8; 48]
         third,
         [4, 5, 6, 7, 8, 9, 10, 11, 16, 17, 18, 19, 20, 21, 22, 23],
     );
-    let end = third.shuffle(
+    let lower = third.shuffle(
         fourth,
         [8, 9, 10, 11, 16, 17, 18, 19, 20, 21, 22, 23, 24, 25, 26, 27],
     );
     let mut bytes = [0; 48];
-    put(&mut bytes, 0, front);
+    put(&mut bytes, 0, upper);
     put(&mut bytes, 16, middle);
-    put(&mut bytes, 32, end);
+    put(&mut bytes, 32, lower);
     bytes
 }

@@ -6,7 +6,7 @@ ghost use Rattle.data_url.specs.Base64.{is_symbol};
 
 use super::alphabet::{group_of, is_symbol};
 use super::blocks::{decode, is_whole};
-use super::held::{HeldGroups, ROOM};
+use super::held::{FULL, HeldGroups};
 use super::{DecodeError, InvalidBase64, InvalidBase64Details};
 
 /// How many bytes the closure is called with at most: those of a block of 64 symbols.
@@ -237,9 +237,9 @@ where
                     return Err(self.refuse(details));
                 }
             }
-            if groups.len >= ROOM {
-                self.flush(&groups.as_slice()[..3 * ROOM])?;
-                groups.drop_front();
+            if groups.len >= FULL {
+                self.flush(&groups.as_slice()[..3 * FULL])?;
+                groups.drop_first();
             }
         }
         self.flush(groups.as_slice())

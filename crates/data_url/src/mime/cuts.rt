@@ -5,7 +5,7 @@ ghost use Rattle.std.specs.Prelude.{◌≡◌, ◌≤◌, None, Some, MatchOptio
 ghost use Rattle.std.specs.List.{prefix_len, suffix_len};
 ghost use Rattle.std.specs.Str.{chars};
 ghost use Rattle.data_url.specs.CodePoints.{is_http_whitespace};
-ghost use Rattle.data_url.specs.Url.{without_end, without_front};
+ghost use Rattle.data_url.specs.Url.{without_end, without_start};
 ghost use Rattle.data_url.specs.Steps.Parsing.{IsTrimmedEnd, after_mark, in_name, in_value};
 
 use crate::classes::{Class, has, span};
@@ -23,7 +23,7 @@ fn trailing_len(bytes: &[u8]) -> usize
 
 /// The text without HTTP whitespace at its start.
 pub(super) fn without_leading_whitespace(text: &str) -> &str
-    ensures { chars result.now ≡ without_front is_http_whitespace (chars text.now) }
+    ensures { chars result.now ≡ without_start is_http_whitespace (chars text.now) }
 {
     let len = span(Class::Whitespace, text.as_bytes());
     &text[len..]
@@ -60,7 +60,7 @@ pub(super) fn name_len(bytes: &[u8]) -> usize
 
 /// Returns how many bytes come before the first `;`.
 pub(super) fn parameter_len(bytes: &[u8]) -> usize
-    ensures front { result ≡ prefix_len in_value bytes.now }
+    ensures prefix { result ≡ prefix_len in_value bytes.now }
     ensures within { result ≤ length bytes.now }
 {
     bytes.iter().take_while(|byte| **byte != b';').count()
@@ -68,7 +68,7 @@ pub(super) fn parameter_len(bytes: &[u8]) -> usize
 
 /// The text from its first `;` on.
 pub(super) fn from_semicolon(text: &str) -> &str
-    ensures { chars result.now ≡ without_front in_value (chars text.now) }
+    ensures { chars result.now ≡ without_start in_value (chars text.now) }
 {
     &text[parameter_len(text.as_bytes())..]
 }

@@ -8,12 +8,12 @@ ghost use Rattle.data_url.specs.Steps.Printing.{AddsOnOk, IsHeld, held};
 use std::{fmt, str};
 
 /// The size of the buffer, in bytes.
-const ROOM: usize = 128;
+const BUFFER_LEN: usize = 128;
 
 /// The end of the output, held in a buffer so that short texts are written together.
 #[derive(Drop)]
 pub(super) struct Line {
-    room: [u8; ROOM],
+    room: [u8; BUFFER_LEN],
     len: usize,
 }
 
@@ -25,7 +25,7 @@ impl Line {
         ensures held { IsHeld result }
     {
         Line {
-            room: [0; ROOM],
+            room: [0; BUFFER_LEN],
             len: 0,
         }
     }
@@ -53,7 +53,7 @@ impl Line {
         ensures added { AddsOnOk W.write_str_gives f.old self.old result text.now f.new self.new }
         ensures held { IsHeld self.new }
     {
-        if text.len() > ROOM - self.len {
+        if text.len() > BUFFER_LEN - self.len {
             return self.push_past_room(f, text);
         }
         self.hold(text);
@@ -72,7 +72,7 @@ impl Line {
         ensures held { IsHeld self.new }
     {
         self.flush(f)?;
-        if text.len() > ROOM {
+        if text.len() > BUFFER_LEN {
             return f.write_str(text);
         }
         self.hold(text);

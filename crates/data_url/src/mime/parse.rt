@@ -3,7 +3,7 @@
 ghost use Rattle.std.specs.Prelude.{◌≡◌, ◌++◌, List, MatchOption, IfOk, IsTrue, OnOk, codes, drop, false, map, suc, take};
 ghost use Rattle.std.specs.Str.{chars};
 ghost use Rattle.data_url.specs.Mime.{BeginsParameters, IsHead, Item, Items, is_token_text, kept_pairs, valid_of, IsRecordOfParts};
-ghost use Rattle.data_url.specs.Url.{without_front};
+ghost use Rattle.data_url.specs.Url.{without_start};
 ghost use Rattle.data_url.specs.Steps.Parsing.{HasNoHead, given_reading, in_value, item_in, pair_in, plain_reading, quotable_value, quoted_len, reading_in, unless_named, value_of};
 ghost use Rattle.data_url.specs.Steps.Kept.{IsIndexed, pairs_of};
 ghost use Rattle.data_url.specs.MimeType.{pair_of, record_of};
@@ -120,7 +120,7 @@ fn read_value(text: &str) -> (Value<'_>, &str)
 #[tactic(auto, using(crate::proofs::mime::Parsing::plain_values))]
 fn read_plain(text: &str) -> (Value<'_>, &str)
     ensures value { value_of result.0 ≡ quotable_value (plain_reading (chars text.now)).value }
-    ensures rest { chars result.1.now ≡ without_front in_value (chars text.now) }
+    ensures rest { chars result.1.now ≡ without_start in_value (chars text.now) }
 {
     let bytes = text.as_bytes();
     let quotable = long_span(Class::Unquoted, bytes);

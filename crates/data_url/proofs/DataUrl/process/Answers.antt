@@ -10,7 +10,7 @@ pub returns : goal.returns
 returns c =
     let media = record_of c.in-Ok-read_media.mime_type in
     let header = c.split_suffix-base64.ensures.header media c.in-Ok-read_media.ensures in
-    is_url_of c.args.input.now c.in-Some.rest.now c.in-Some-split_at_comma.front.header.now _
+    is_url_of c.args.input.now c.in-Some.rest.now c.in-Some-split_at_comma.split.header.now _
     (bytes_trimmed c.args.input.now (λ i. omega (arith, c.type_inv.input i)))
     (rw c.trim.ensures at c.in-Some.ensures.found) c.in-Some-split_at_comma.ensures.found
     (rw c.serialised_text.ensures.text at header)

@@ -1,6 +1,6 @@
 use Rattle.std.{proofs.Common.{◌≡◌, ◌<◌, ℕ, arith, false, not, refl, true}, proofs.lemmas.List.{take_rest}}
 use Rattle.data_url.specs.Steps.Classes.{in_class, is_marked}
-use Rattle.data_url.specs.{Steps.Front.{is_plain_path}, Steps.Parsing.{is_escaped, is_quotable_byte, is_unquoted_byte}}
+use Rattle.data_url.specs.{Steps.Split.{is_plain_path}, Steps.Parsing.{is_escaped, is_quotable_byte, is_unquoted_byte}}
 use Rattle.data_url.proofs.{classes.Rows.{all_marked, unmarked_passes}, texts.CodePoints.{front_further}}
 use Rattle.data_url.proofs.classes.long_span.Goals as goal
 
@@ -16,5 +16,5 @@ unmarked c = elim c.match-class.branch [
   | goal.in_default w ↦ rw w.others-is (all_marked _ _ refl)
 ]
 
-pub returns-clause-front : goal.returns-clause-front
-returns-clause-front c = grind (arith, unmarked, take_rest, front_further)
+pub returns-clause-prefix : goal.returns-clause-prefix
+returns-clause-prefix c = grind (arith, unmarked, take_rest, front_further)

@@ -4,7 +4,7 @@ use Rattle.data_url.proofs.percent.encode_part.Goals as goal
 
 pub loop-byte-preserved : goal.loop-byte-preserved
 loop-byte-preserved c = rw c.from-at.ensures (put_more _ _ _ _ _ _ _ c.loop-byte.invariant c.loop-byte-test.true
-    (omega arith) c.row-row.ensures c.put.array_long c.put.ensures)
+    (omega arith) c.entry-entry.ensures c.put.array_long c.put.ensures)
 
 pub returns-clause-written : goal.returns-clause-written
 returns-clause-written c = grind (arith, take_all)

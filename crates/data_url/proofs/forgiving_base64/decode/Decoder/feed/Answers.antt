@@ -26,11 +26,11 @@ returns-in-Err-clause-fed g c =
 
 pub slice_bounds-flush-end : goal.slice_bounds-flush-end
 slice_bounds-flush-end g c =
-    let size = ap length c.as_slice-then-groups-ge-ROOM.ensures ∙ held_len c.take_some.new.groups in
+    let size = ap length c.as_slice-then-groups-ge-FULL.ensures ∙ held_len c.take_some.new.groups in
     sym (length-take-le 192 _ (omega (arith, size)))
 
-pub flush-requires-then-groups-ge-ROOM-clause-whole : goal.flush-requires-then-groups-ge-ROOM-clause-whole
-flush-requires-then-groups-ge-ROOM-clause-whole g c = omega (arith, slice_bounds-flush-end g c)
+pub flush-requires-then-groups-ge-FULL-clause-whole : goal.flush-requires-then-groups-ge-FULL-clause-whole
+flush-requires-then-groups-ge-FULL-clause-whole g c = omega (arith, slice_bounds-flush-end g c)
 
 pub returns-in_err-flush-clause-fed : goal.returns-in_err-flush-clause-fed
 returns-in_err-flush-clause-fed g c =
@@ -38,24 +38,24 @@ returns-in_err-flush-clause-fed g c =
     let bytes = held_bytes c.take_some.new.groups in
     let reads = reads_gained step c.args.input.now c.loop-at.at c.in-Ok.taken c.loop-at.invariant.reads
     c.in-Ok.ensures in
-    let flushed = rw c.as_slice-then-groups-ge-ROOM.ensures at c.in_err-flush.ensures.flushed in
+    let flushed = rw c.as_slice-then-groups-ge-FULL.ensures at c.in_err-flush.ensures.flushed in
     let p = err_from_is_err_and c.from_residual-in_err-flush.result c.from_residual-in_err-flush.ensures.1 in
     rw (p.1, p.2) (feeds_stop step c.args.input.now (c.loop-at.at + c.in-Ok.taken) (flushed (state_of c.args.self.now)
     (take (c.loop-at.at + c.in-Ok.taken) c.args.input.now) (drop 192 bytes) (rw (take-append-drop 192 bytes) reads)))
 
-pub loop-at-preserved-then-groups-ge-ROOM : goal.loop-at-preserved-then-groups-ge-ROOM
-loop-at-preserved-then-groups-ge-ROOM g c =
+pub loop-at-preserved-then-groups-ge-FULL : goal.loop-at-preserved-then-groups-ge-FULL
+loop-at-preserved-then-groups-ge-FULL g c =
     let step = CalledAt g.F.FnMut in
     let held = c.take_some.new.groups in
     let bytes = held_bytes held in
     let reads = reads_gained step c.args.input.now c.loop-at.at c.in-Ok.taken c.loop-at.invariant.reads
     c.in-Ok.ensures in
-    let flushed = rw c.as_slice-then-groups-ge-ROOM.ensures at c.in_ok-flush.ensures.flushed in
+    let flushed = rw c.as_slice-then-groups-ge-FULL.ensures at c.in_ok-flush.ensures.flushed in
     record {
       callable = c.in_ok-flush.ensures.callable;
       within = omega (arith, c.in-Ok.ensures.within, length-drop c.loop-at.at c.args.input.now);
-      few = omega (arith, c.drop_front.ensures.len, held.within);
-      reads = rw c.drop_front.ensures.bytes (flushed (state_of c.args.self.now)
+      few = omega (arith, c.drop_first.ensures.len, held.within);
+      reads = rw c.drop_first.ensures.bytes (flushed (state_of c.args.self.now)
           (take (c.loop-at.at + c.in-Ok.taken) c.args.input.now) (drop 192 bytes)
           (rw (take-append-drop 192 bytes) reads));
     }

@@ -49,7 +49,7 @@ loop-rest-preserved c =
       leaves = leaves_then (4 * m + k) i.leaves (row_fills c.loop-rest.self.bytes _ _ _ rest c.loop-rest.len m k
           (omega (arith, c.loop-rest.self.sized)) c.put.ensures c.decode_row.ensures.bytes c.row-row.ensures ahead.few
           (omega arith) few (leaves_fits i.leaves c.type_inv.text) (sym (ap (list_all is_symbol) front) ∙ ahead.symbols)
-          (rw (c.spaces_len.ensures.front, take_rest rest (4 * m)) (spaces_front (drop (4 * m) rest))));
+          (rw (c.spaces_len.ensures.prefix, take_rest rest (4 * m)) (spaces_front (drop (4 * m) rest))));
     }
 
 pub returns-clause-none : goal.returns-clause-none
@@ -63,9 +63,9 @@ returns-clause-fills c =
     let old = c.loop-rest.self.bytes in
     let n = 3 * c.loop-rest.len in
     let same : take n c.loop-rest-test.self.1.0 ≡ take n old = elim c.loop-rest-test.branch [
-      | goal.then-loop-rest-test+else-len-lt-ROOM w ↦ grind arith
+      | goal.then-loop-rest-test+else-len-lt-FULL w ↦ grind arith
       | goal.else-loop-rest-test w ↦ grind arith
-      | goal.then-loop-rest-test+then-len-lt-ROOM+else-are_symbols+then-taken-eq0 w ↦
+      | goal.then-loop-rest-test+then-len-lt-FULL+else-are_symbols+then-taken-eq0 w ↦
           rw w.self-is (put_keeps old w.put.new.bytes w.decode_row.result n
           (omega (arith, c.loop-rest.self.sized)) w.put.ensures)
     ] in

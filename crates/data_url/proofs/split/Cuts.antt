@@ -10,7 +10,7 @@ use Rattle.std.{proofs.lemmas.List.{take_rest}, specs.Char.{to_ascii_lowercase},
 use Rattle.std.{proofs.lemmas.Slice.Eq.{bytes_eq-Decides, starts_is}, specs.List.{starts_with, prefix_len}}
 use Rattle.std.proofs.lemmas.Str.{IsCharBoundary-after_ascii, IsCharBoundary-from_take, IsUtf8-from_ascii}
 use Rattle.data_url.specs.Mime.{Every}
-use Rattle.data_url.specs.Steps.Front.{HasNoScheme, IsSchemeAndRest, IsHeaderAndTail, ends_header, is_plain_path}
+use Rattle.data_url.specs.Steps.Split.{HasNoScheme, IsSchemeAndRest, IsHeaderAndTail, ends_header, is_plain_path}
 use Rattle.data_url.specs.{Steps.Header.{header_text}, Url.{without_tabs_and_newlines, is_tab_or_newline, after, front}}
 use Rattle.data_url.proofs.{percent.Encoding.{kept_whole, ascii_all, Plain}, texts.Bytes.{before_at, after_none}}
 use Rattle.data_url.proofs.texts.Bytes.{after_nil, after_other, after-dropped_none, without_tabs_and_newlines-append}
@@ -108,7 +108,7 @@ pub common_scheme : (text rest : List ℕ) → starts_with nat_eq text scheme �
 common_scheme text rest h e = grind (arith, common_spelled, starts_is)
 
 -- at index n is the first ',' or '#' of the text
-pub record IsFrontEnd (s : List ℕ) (n : ℕ) : Type 0 where
+pub record IsHeaderEnd (s : List ℕ) (n : ℕ) : Type 0 where
   pub within : n < length s
   pub is : (get_or s n 0 ≡ 44) ⊎ (get_or s n 0 ≡ 35)
   pub no_comma : after 44 (take n s) ≡ None
@@ -129,28 +129,28 @@ no_end [] h = (after_nil 44, after_nil 35)
 no_end (b ∷ s) h = grind (arith, or_parts, after_other, no_end s h.1)
 
 -- if the first ',' or '#' of a text is a ',', the bytes before it are the header, and those after it are the tail
-pub at_comma : (s : List ℕ) (n : ℕ) → IsFrontEnd s n → get_or s n 0 ≢ 35 → IsHeaderAndTail s (take n s) (drop (n + 1) s)
+pub at_comma : (s : List ℕ) (n : ℕ) → IsHeaderEnd s n → get_or s n 0 ≢ 35 → IsHeaderAndTail s (take n s) (drop (n + 1) s)
 at_comma s n f ne = grind (arith, cut_at)
 
 -- if the first ',' or '#' of a text is a '#', there is no ',' before the first '#'
-pub at_hash : (s : List ℕ) (n : ℕ) → IsFrontEnd s n → get_or s n 0 ≡ 35 → after 44 (front s) ≡ None
+pub at_hash : (s : List ℕ) (n : ℕ) → IsHeaderEnd s n → get_or s n 0 ≡ 35 → after 44 (front s) ≡ None
 unfolding front
 at_hash s n f h = cc (cut_at s n f.within, before_at 35 (take n s) (drop (n + 1) s) f.no_hash)
 
 -- if the first ',' or '#' after the n plain bytes at the front is at index k of the bytes after them, the first one of
 -- the text is at n + k
-pub front_end_at : (s items : List ℕ) (n k : ℕ) (r : Option ℕ) → items ≡ s → n ≡ prefix_len is_plain_path items
-    → r ≡ position ends_header (take (length items - n) (drop n items)) → r ≡ Some k → IsFrontEnd s (n + k)
-front_end_at s items n k r e f q g =
+pub header_end_at : (s items : List ℕ) (n k : ℕ) (r : Option ℕ) → items ≡ s → n ≡ prefix_len is_plain_path items
+    → r ≡ position ends_header (take (length items - n) (drop n items)) → r ≡ Some k → IsHeaderEnd s (n + k)
+header_end_at s items n k r e f q g =
     let more = further_on s items n e f in
     let lacks = no_end (take (prefix_len in_header s) s) (front_passes in_header s) in
     grind (arith, take_rest, length-drop, prefix_len_stops in_header s 0, eqb-true)
 
 -- if there is no ',' or '#' after the plain bytes at the front, there is no ',' before the first '#' of the text
-pub no_front_end : (s items : List ℕ) (n : ℕ) (r : Option ℕ) → items ≡ s → n ≡ prefix_len is_plain_path items
+pub no_header_end : (s items : List ℕ) (n : ℕ) (r : Option ℕ) → items ≡ s → n ≡ prefix_len is_plain_path items
     → r ≡ position ends_header (take (length items - n) (drop n items)) → r ≡ None → after 44 (front s) ≡ None
 unfolding front
-no_front_end s items n r e f q g =
+no_header_end s items n r e f q g =
     let more = further_on s items n e f in
     let lacks = no_end (take (prefix_len in_header s) s) (front_passes in_header s) in
     grind (arith, take_rest, length-drop, take_all, before_all)
@@ -171,4 +171,4 @@ pub ruleset steps = (spells_passed, spells_all, spells_more)
 pub ruleset spelling = (steps, differs, ends_early, dropped_nil, take_all, IsCharBoundary-after_ascii)
 
 -- the lemmas for `split_at_comma`
-pub ruleset commas = (no_front_end, at_hash, front_end_at, at_comma, IsCharBoundary-after_ascii, eqb-true, plain_before)
+pub ruleset commas = (no_header_end, at_hash, header_end_at, at_comma, IsCharBoundary-after_ascii, eqb-true, plain_before)

@@ -1,10 +1,10 @@
-//! The front of a data: URL in the input: its scheme and its first comma (URL Standard, section 4.4).
+//! Splits the input: its scheme, its header, and what follows its first comma (URL Standard, section 4.4).
 
 ghost use Rattle.std.specs.Prelude.{◌≡◌, None, IfSome, IfNone, true};
 ghost use Rattle.std.specs.List.{position};
 ghost use Rattle.data_url.specs.Url.{after, comma, front, without_tabs_and_newlines};
 ghost use Rattle.data_url.specs.Steps.Header.{header_text};
-ghost use Rattle.data_url.specs.Steps.Front.{HasNoScheme, IsHeaderAndTail, IsSchemeAndRest, ends_header};
+ghost use Rattle.data_url.specs.Steps.Split.{HasNoScheme, IsHeaderAndTail, IsSchemeAndRest, ends_header};
 
 use crate::ascii::is_tab_or_newline;
 use crate::classes::{Class, long_span};
@@ -13,7 +13,7 @@ const SCHEME: [u8; 5] = *b"data:";
 
 /// What follows the scheme `data:` of a trimmed text, spelled in any ASCII case, with tabs and
 /// newlines anywhere.
-#[tactic(auto, using(crate::proofs::front::Cuts::common_boundary, crate::proofs::front::Cuts::common_scheme))]
+#[tactic(auto, using(crate::proofs::split::Cuts::common_boundary, crate::proofs::split::Cuts::common_scheme))]
 pub(crate) fn after_scheme(text: &str) -> Option<&str>
     ensures found { IfSome result (λ rest. IsSchemeAndRest text.now rest.now) }
     ensures none { IfNone result (HasNoScheme text.now) }
@@ -26,7 +26,7 @@ pub(crate) fn after_scheme(text: &str) -> Option<&str>
 
 /// Returns what follows the scheme, byte by byte, if it is not spelled as it commonly is.
 #[inline(never)]
-#[tactic(auto, using(crate::proofs::front::Cuts::spelling))]
+#[tactic(auto, using(crate::proofs::split::Cuts::spelling))]
 fn after_respelled_scheme(text: &str) -> Option<&str>
     ensures found { IfSome result (λ rest. IsSchemeAndRest text.now rest.now) }
     ensures none { IfNone result (HasNoScheme text.now) }
@@ -49,7 +49,7 @@ fn after_respelled_scheme(text: &str) -> Option<&str>
 
 /// A text cut at its first comma.
 #[derive(Clone, Copy)]
-pub(crate) struct Front<'a> {
+pub(crate) struct Split<'a> {
     /// The text before the comma.
     pub(crate) header: &'a str,
     /// The text after it.
@@ -59,8 +59,8 @@ pub(crate) struct Front<'a> {
 }
 
 /// The text cut at its first comma, unless a `#` comes before it.
-#[tactic(auto, using(crate::proofs::front::Cuts::commas))]
-pub(crate) fn split_at_comma(text: &str) -> Option<Front<'_>>
+#[tactic(auto, using(crate::proofs::split::Cuts::commas))]
+pub(crate) fn split_at_comma(text: &str) -> Option<Split<'_>>
     ensures found { IfSome result (λ f. IsHeaderAndTail text.now f.header.now f.tail.now) }
     ensures plain { IfSome result (λ f. f.is_plain ≡ true
         → header_text (without_tabs_and_newlines f.header.now) ≡ f.header.now) }
@@ -68,12 +68,12 @@ pub(crate) fn split_at_comma(text: &str) -> Option<Front<'_>>
 {
     let bytes = text.as_bytes();
     let plain = long_span(Class::PlainPath, bytes);
-    let further = front_end(&bytes[plain..])?;
+    let further = header_end(&bytes[plain..])?;
     let place = plain + further;
     if bytes[place] == b'#' {
         return None;
     }
-    Some(Front {
+    Some(Split {
         header: &text[..place],
         tail: &text[place + 1..],
         is_plain: place == plain,
@@ -81,7 +81,7 @@ pub(crate) fn split_at_comma(text: &str) -> Option<Front<'_>>
 }
 
 /// The place of the first comma or `#`.
-fn front_end(bytes: &[u8]) -> Option<usize>
+fn header_end(bytes: &[u8]) -> Option<usize>
     ensures { result ≡ position ends_header bytes.now }
 {
     bytes.iter().position(|byte| *byte == b',' || *byte == b'#')

@@ -1,15 +1,15 @@
 //! What each byte of a URL is written as (URL Standard, section 1.3).
 //!
-//! A row of four bytes begins with what its byte is written as: the byte itself, `%` and its two
-//! digits or, for a tab or newline, nothing. The last byte of the row says how long that is.
+//! An entry of four bytes begins with what its byte is written as: the byte itself, `%` and its two
+//! digits or, for a tab or newline, nothing. The last byte of the entry says how long that is.
 
 ghost use Rattle.std.specs.Prelude.{◌≡◌, ◌∷◌, ◌<◌, [], false, ℕ};
 ghost use Rattle.data_url.specs.Steps.Classes.{is_marked};
-ghost use Rattle.data_url.specs.Steps.Sets.{IsRow, byte_encoding, in_set};
+ghost use Rattle.data_url.specs.Steps.Sets.{IsEntry, byte_encoding, in_set};
 
 use super::EncodeSet;
 
-/// The rows of the C0 control percent-encode set.
+/// The entries of the C0 control percent-encode set.
 #[rattlefmt::skip]
 const PATH: [u8; 1024] = *b"\
     %00\x03%01\x03%02\x03%03\x03%04\x03%05\x03%06\x03%07\x03%08\x03%09\x00%0A\x00%0B\x03%0C\x03%0D\x00%0E\x03%0F\x03\
@@ -30,7 +30,7 @@ const PATH: [u8; 1024] = *b"\
     %F0\x03%F1\x03%F2\x03%F3\x03%F4\x03%F5\x03%F6\x03%F7\x03%F8\x03%F9\x03%FA\x03%FB\x03%FC\x03%FD\x03%FE\x03%FF\x03\
     ";
 
-/// The rows of the query percent-encode set.
+/// The entries of the query percent-encode set.
 #[rattlefmt::skip]
 const QUERY: [u8; 1024] = *b"\
     %00\x03%01\x03%02\x03%03\x03%04\x03%05\x03%06\x03%07\x03%08\x03%09\x00%0A\x00%0B\x03%0C\x03%0D\x00%0E\x03%0F\x03\
@@ -51,7 +51,7 @@ const QUERY: [u8; 1024] = *b"\
     %F0\x03%F1\x03%F2\x03%F3\x03%F4\x03%F5\x03%F6\x03%F7\x03%F8\x03%F9\x03%FA\x03%FB\x03%FC\x03%FD\x03%FE\x03%FF\x03\
     ";
 
-/// The rows of the fragment percent-encode set.
+/// The entries of the fragment percent-encode set.
 #[rattlefmt::skip]
 const FRAGMENT: [u8; 1024] = *b"\
     %00\x03%01\x03%02\x03%03\x03%04\x03%05\x03%06\x03%07\x03%08\x03%09\x00%0A\x00%0B\x03%0C\x03%0D\x00%0E\x03%0F\x03\
@@ -86,10 +86,10 @@ pub(super) fn others(set: EncodeSet) -> [u8; 16]
     }
 }
 
-/// The row of a byte.
+/// The entry of a byte.
 #[inline(always)]
-pub(super) fn row(set: EncodeSet, byte: u8) -> &'static [u8]
-    ensures { IsRow (in_set set) byte result.now }
+pub(super) fn entry(set: EncodeSet, byte: u8) -> &'static [u8]
+    ensures { IsEntry (in_set set) byte result.now }
 {
     let at = 4 * (byte as usize);
     match set {

@@ -1,9 +1,9 @@
 use Rattle.std.proofs.Common.{arith, ◌∙◌}
 use Rattle.data_url.proofs.escapes.Walking.{end_knows, front_is, front_knows}
-use Rattle.data_url.proofs.escapes.cursor.Cursor.next_front.Goals as goal
+use Rattle.data_url.proofs.escapes.cursor.Cursor.next_prefix.Goals as goal
 
-pub returns-clause-front : goal.returns-clause-front
-returns-clause-front c =
+pub returns-clause-prefix : goal.returns-clause-prefix
+returns-clause-prefix c =
     let m = c.next_mark-mark.ensures in front_is m.on.text_stays (grind arith) m.mark (grind arith)
 
 pub returns-clause-knows : goal.returns-clause-knows
