@@ -12,7 +12,7 @@ use std::io::{self, Read, Write};
 use std::str;
 
 /// Room for the name of the call and its text.
-const ROOM: usize = 4096;
+const BUFFER_LEN: usize = 4096;
 
 /// Writes a line.
 fn write_line<W: Write, D: Display>(out: &mut W, value: &D) -> io::Result<()> {
@@ -145,7 +145,7 @@ fn write_call<W: Write>(alloc: Global, name: &str, text: &str, out: &mut W) -> i
 }
 
 fn main(rt: HostRuntime) -> io::Result<()> {
-    let mut room = [0; ROOM];
+    let mut room = [0; BUFFER_LEN];
     let len = rt.stdin().read(&mut room)?;
     let Ok(input) = str::from_utf8(&room[..len]) else {
         return Ok(());

@@ -19,7 +19,7 @@ use data_url::escapes::{Piece, Pieces};
 const MORE: u32 = 11;
 
 /// The smallest output that a body is decoded into, in bytes.
-const ROOM: usize = 8;
+const SMALLEST_OUTPUT: usize = 8;
 
 /// A body in parts: where it goes on in its tail, and what is left over. It begins at 0, with nothing left over.
 #[repr(C)]
@@ -201,10 +201,10 @@ fn plan(state: &DataUrlBody, tail: &[u8], room: usize) -> Result<usize, DataUrlS
             len: 0,
         });
     }
-    if room < ROOM {
+    if room < SMALLEST_OUTPUT {
         return Err(DataUrlStep {
             status: OUTPUT_TOO_SMALL,
-            len: ROOM,
+            len: SMALLEST_OUTPUT,
         });
     }
     let end = window_end(tail, state.from, (room - 3) / 4 * 4);

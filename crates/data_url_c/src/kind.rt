@@ -25,7 +25,7 @@ pub(crate) const SYMBOL_AFTER_PADDING: u32 = 10;
 pub(crate) const UNEXPECTED_SYMBOL: u32 = 256;
 
 /// The size of the buffer for an error's message: more than any message has.
-const ROOM: usize = 63;
+const BUFFER_LEN: usize = 63;
 
 /// The byte that the text of an unexpected symbol names.
 fn unexpected_byte(text: &str) -> Option<u8>
@@ -59,7 +59,7 @@ fn status_of_text(text: &str) -> Option<u32>
 pub(crate) fn status_of(refusal: &InvalidBase64) -> Option<u32>
     ensures { IfSome result (λ status. status ≡ status_of_kind refusal.now) }
 {
-    let text = InlineText::<ROOM>::of(refusal);
+    let text = InlineText::<BUFFER_LEN>::of(refusal);
     let text = text.as_str();
     if text.as_bytes().ends_with(CUT) {
         return None;

@@ -18,7 +18,7 @@ use std::convert::Infallible;
 pub(crate) const BAD_STATE: u32 = 12;
 
 /// The smallest output that base64 is fed to: the bytes of what is left over and of one byte of the text always fit.
-const ROOM: usize = 4;
+const SMALLEST_OUTPUT: usize = 4;
 
 /// The smallest length of a text that is fed in two steps.
 const LONG: usize = 1024;
@@ -302,10 +302,10 @@ pub(crate) fn feed(state: &mut DataUrlBase64, input: &[u8], out: &mut [u8]) -> D
             read: 0,
         };
     }
-    if out.len() < ROOM {
+    if out.len() < SMALLEST_OUTPUT {
         return DataUrlFed {
             status: OUTPUT_TOO_SMALL,
-            len: ROOM,
+            len: SMALLEST_OUTPUT,
             read: 0,
         };
     }

@@ -59,9 +59,9 @@ module _ {F E : Type 0} (step : F → List ℕ → Result (Unit {0}) E → F →
         body = cc (append_assoc (joined_pieces k.run) bytes w'.rest, append-nil bytes, joined_pieces-append k.run call);
       }
 
-  -- the closure was called with the front of the body
-  pub going_prefix : {f g : F} {text bytes : List ℕ} {w : Walk} (answer : Result (Unit {0}) E) → IsBodyPrefix text bytes w
-      → 0 < length bytes → step f bytes answer g → Going f text w answer g
+  -- the closure was called with the prefix of the body
+  pub going_prefix : {f g : F} {text bytes : List ℕ} {w : Walk} (answer : Result (Unit {0}) E)
+      → IsBodyPrefix text bytes w → 0 < length bytes → step f bytes answer g → Going f text w answer g
   going_prefix {g = g} {bytes = bytes} answer i some s = record {
     run = record { piece = bytes; answer = answer; after = g } ∷ [];
     ran = (s, λ e. refl, refl);
@@ -72,7 +72,7 @@ module _ {F E : Type 0} (step : F → List ℕ → Result (Unit {0}) E → F →
     body = cc (i.body_is, append-nil bytes);
   }
 
-  -- the front of the body is empty, and the closure was not called
+  -- the prefix of the body is empty, and the closure was not called
   pub going_none : {f : F} {text : List ℕ} (bytes : List ℕ) {w : Walk} → IsBodyPrefix text bytes w → length bytes ≡ 0
       → Going f text w (Ok tt) f
   going_none {f} bytes i none = grind (arith, nil_from_length)

@@ -1,9 +1,10 @@
 -- What a walk reads: digits after tabs and newlines, the bytes between two places, and blocks with their marks.
 use Rattle.std.proofs.Common.{List, [], ◌∷◌, ◌++◌, length, drop, get_or, Option, None, Some, refl, sym, ap, ◌∙◌, arith}
 use Rattle.std.proofs.Common.{bit_and, w8, Fits, ◌≢◌, inl, inr, ◌==◌, slice_range, take_all, length-take-le, take-take}
-use Rattle.std.proofs.Common.{leb, eqb, ltb, eqb-true, take, append_assoc, length-append, ◌/◌, ◌^◌, map, min, replicate, ◌%◌}
+use Rattle.std.proofs.Common.{eqb, ltb, eqb-true, take, append_assoc, length-append, ◌/◌, ◌^◌, map, min, replicate, ◌%◌}
 use Rattle.std.proofs.Common.{map-id, ◌≡◌, ℕ, zero, suc, ◌+◌, ◌*◌, ◌-◌, ◌<◌, ◌≤◌, Bool, true, false, not, cond, ◌&&◌}
-use Rattle.std.{proofs.Math.Nat.{div-div-eq-div-mul, pow-suc}, proofs.lemmas.Nat.{le_or_l, le_or_r, and_le_r}}
+use Rattle.std.{proofs.Common.{leb}, proofs.Math.Nat.{div-div-eq-div-mul, pow-suc}}
+use Rattle.std.proofs.lemmas.Nat.{le_or_l, le_or_r, and_le_r}
 use Rattle.std.{proofs.Math.Seq.{take-append-add}, specs.Char.{digit_value, is_ascii_hexdigit}, specs.List.{prefix_len}}
 use Rattle.std.proofs.lemmas.Bool.{agree_below_at, and_left, and_right, cases_Bool, cases_lt, eqb-true}
 use Rattle.std.proofs.lemmas.List.Sums.{prefix_len-drop_yes, prefix_len-drop_no, prefix_len-le-length}

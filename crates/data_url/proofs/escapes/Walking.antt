@@ -6,7 +6,8 @@ use Rattle.std.{proofs.Common.{take-add, slice_range, IfNone}, proofs.lemmas.Str
 use Rattle.std.proofs.lemmas.List.{drop_more, drop_all, take_more_set, append_cancel_right}
 use Rattle.data_url.specs.{Fetch.{plain_body}, Steps.Digits.{EscapeAt, cleaned}, declared.escapes.Piece.{Piece}}
 use Rattle.data_url.specs.Pieces.{Walk, text_of, IsStretch, bytes_of, has_ended, is_slice_end, walk_of}
-use Rattle.data_url.specs.{Steps.Chunks.{IsBodyPrefix, IsOver, Takes}, Steps.Tail.{BeginsFragment, IsBodyEnd, rest_fragment}}
+use Rattle.data_url.specs.Steps.Chunks.{IsBodyPrefix, IsOver, Takes}
+use Rattle.data_url.specs.Steps.Tail.{BeginsFragment, IsBodyEnd, rest_fragment}
 use Rattle.data_url.specs.Steps.Walk.{Ended, EndsAt, Gathers, GoesOn, IsClear, IsNextMark, IsPart, Knows, KnowsAhead}
 use Rattle.data_url.specs.Steps.Walk.{Looking, LooksOn, MayGather, Moves, Pays, Reads, Searching, Spells}
 use Rattle.data_url.specs.{Url.{before, after, front, without_tabs_and_newlines}, declared.escapes.cursor.Ahead.{Ahead}}

@@ -129,7 +129,8 @@ no_end [] h = (after_nil 44, after_nil 35)
 no_end (b ∷ s) h = grind (arith, or_parts, after_other, no_end s h.1)
 
 -- if the first ',' or '#' of a text is a ',', the bytes before it are the header, and those after it are the tail
-pub at_comma : (s : List ℕ) (n : ℕ) → IsHeaderEnd s n → get_or s n 0 ≢ 35 → IsHeaderAndTail s (take n s) (drop (n + 1) s)
+pub at_comma : (s : List ℕ) (n : ℕ) → IsHeaderEnd s n → get_or s n 0 ≢ 35
+    → IsHeaderAndTail s (take n s) (drop (n + 1) s)
 at_comma s n f ne = grind (arith, cut_at)
 
 -- if the first ',' or '#' of a text is a '#', there is no ',' before the first '#'
@@ -171,4 +172,6 @@ pub ruleset steps = (spells_passed, spells_all, spells_more)
 pub ruleset spelling = (steps, differs, ends_early, dropped_nil, take_all, IsCharBoundary-after_ascii)
 
 -- the lemmas for `split_at_comma`
-pub ruleset commas = (no_header_end, at_hash, header_end_at, at_comma, IsCharBoundary-after_ascii, eqb-true, plain_before)
+pub ruleset cuts_at = (no_header_end, at_hash, header_end_at, at_comma)
+
+pub ruleset commas = (cuts_at, IsCharBoundary-after_ascii, eqb-true, plain_before)
