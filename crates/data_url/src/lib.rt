@@ -135,7 +135,7 @@ impl<'a> DataUrl<'a> {
     /// The closure has to accept any bytes, whatever it was called with before. It is called at most once more than
     /// there are bytes after the comma. Callers must not rely on where the bytes are cut, and pieces may be empty.
     /// Today a long stretch of the text is one piece, shorter ones and the values of escapes come in pieces of up to
-    /// 256 bytes, base64 comes in pieces of up to 48 bytes, and no piece is empty.
+    /// 512 bytes, base64 comes in pieces of up to 48 bytes, and no piece is empty.
     ///
     /// Returns `WriteError` with the closure's error; the closure is not called again. Returns `InvalidBase64` if the
     /// body is base64 that is not valid, after calls with the bytes before the first fault.
