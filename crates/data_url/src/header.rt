@@ -142,13 +142,15 @@ pub(crate) fn read_media(alloc: Global, media: &str) -> Result<Mime, AllocError>
     requires { IsPrintable media.now }
     ensures { IfOk result (λ mime. IsRecordFor (with_plain media.now) (record_of mime)) }
 {
-    if media.as_bytes().starts_with(b";") {
-        return plain_head(media).record(alloc);
-    }
-    match read_head(media) {
-        Some(head) => head.record(alloc),
-        None => default_mime(alloc),
-    }
+    let head = if media.as_bytes().starts_with(b";") {
+        plain_head(media)
+    } else {
+        match read_head(media) {
+            Some(head) => head,
+            None => return default_mime(alloc),
+        }
+    };
+    head.record(alloc)
 }
 
 /// `text/plain;charset=US-ASCII`.

@@ -38,6 +38,7 @@ struct Parameter<'a> {
 
 impl<'a> Head<'a> {
     /// The record of a MIME type with these parts. It allocates the record.
+    #[inline(always)]
     pub(crate) fn record(self, alloc: Global) -> Result<Mime, AllocError>
         requires type_ { IsTrue (is_token_text (chars self.type_.now)) }
         requires subtype { IsTrue (is_token_text (chars self.subtype.now)) }
