@@ -135,8 +135,7 @@ pub(crate) fn split_suffix(header: &str) -> (&str, bool)
     }
 }
 
-/// Returns the record of a header without its suffix or, if it has none, the default record. A type that is left out is
-/// `text/plain`.
+/// Returns the record of a header without its suffix, or the default record. A missing type is `text/plain`.
 #[tactic(auto, using(crate::proofs::header::Stages::chars_printable, crate::proofs::header::Stages::begins_at))]
 pub(crate) fn read_media(alloc: Global, media: &str) -> Result<Mime, AllocError>
     requires { IsPrintable media.now }

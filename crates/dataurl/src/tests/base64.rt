@@ -57,24 +57,42 @@ fn texts_in_pieces(rt: HostRuntime) -> Result<(), Fail> {
     assert_texts(&rt, rt.alloc(), &TEXTS)
 }
 
-/// Asserts that nothing is read after the piece with the first fault, if each read returns this many bytes.
-fn assert_reads(rt: &impl Abort, alloc: Global, after: &str, piece: usize) -> Result<(), Fail> {
-    let peers = Peers {
+/// How each read returns this many bytes.
+fn by_pieces(piece: usize) -> Peers {
+    Peers {
         first: piece,
         piece,
         ..SOUND
-    };
-    for groups in [0_usize, 1, 2, 500, 1023, 1024, 1500] {
-        let sound = "QUJD".repeat(alloc, groups)?;
-        let bytes = "ABC".repeat(alloc, groups)?;
-        let text = format!(in alloc; "{sound}!{after}")?;
-        let ended = outcome_of(rt, alloc, "base64", text.as_bytes(), peers)?;
-        let reads = sound.len().checked_div(piece);
-        assert!(rt; ended.reads.checked_sub(1) == reads, "{groups}, {piece}");
-        assert!(rt;
-            ended.written.as_slice() == bytes.as_bytes() && ended.status == 1,
-            "{groups}, {piece}"
-        );
+    }
+}
+
+/// Asserts that nothing is read after the piece with the first fault, which comes after some groups.
+fn assert_reads(
+    rt: &impl Abort,
+    alloc: Global,
+    groups: usize,
+    after: &str,
+    piece: usize,
+) -> Result<(), Fail> {
+    let sound = "QUJD".repeat(alloc, groups)?;
+    let bytes = "ABC".repeat(alloc, groups)?;
+    let text = format!(in alloc; "{sound}!{after}")?;
+    let ended = outcome_of(rt, alloc, "base64", text.as_bytes(), by_pieces(piece))?;
+    let reads = sound.len().checked_div(piece);
+    assert!(rt; ended.reads.checked_sub(1) == reads, "{groups}, {piece}");
+    assert!(rt; ended.written.as_slice() == bytes.as_bytes() && ended.status == 1);
+    Ok(())
+}
+
+/// Asserts the same for several numbers of groups.
+fn assert_each_reads(
+    rt: &impl Abort,
+    alloc: Global,
+    after: &str,
+    piece: usize,
+) -> Result<(), Fail> {
+    for groups in [0, 1, 2, 500, 1023, 1024, 1500] {
+        assert_reads(rt, alloc, groups, after, piece)?;
     }
     Ok(())
 }
@@ -84,30 +102,32 @@ fn no_read_after_a_fault(rt: HostRuntime) -> Result<(), Fail> {
     let much = "QUJD".repeat(rt.alloc(), 3000)?;
     for after in ["QUJD", much.as_str()] {
         for piece in [1, 2, 3, 5, 64, 1000, 2048, 4095, 4096] {
-            assert_reads(&rt, rt.alloc(), after, piece)?;
+            assert_each_reads(&rt, rt.alloc(), after, piece)?;
         }
     }
     Ok(())
 }
 
+/// Asserts that there are few writes, whatever the reads return.
+fn assert_few_writes(
+    rt: &impl Abort,
+    alloc: Global,
+    groups: usize,
+    piece: usize,
+) -> Result<(), Fail> {
+    let text = "QUJD".repeat(alloc, groups)?;
+    let bytes = "ABC".repeat(alloc, groups)?;
+    let ended = outcome_of(rt, alloc, "base64", text.as_bytes(), by_pieces(piece))?;
+    assert!(rt; ended.written.as_slice() == bytes.as_bytes());
+    assert!(rt; ended.writes <= bytes.len() / 4000 + 1, "{groups}, {piece}");
+    Ok(())
+}
+
 #[test]
 fn few_writes(rt: HostRuntime) -> Result<(), Fail> {
-    let alloc = rt.alloc();
     for groups in [1, 1000, 1365, 1366, 2731, 5462] {
-        let text = "QUJD".repeat(alloc, groups)?;
-        let bytes = "ABC".repeat(alloc, groups)?;
         for piece in [3, 100, 4095, 4096] {
-            let peers = Peers {
-                first: piece,
-                piece,
-                ..SOUND
-            };
-            let ended = outcome_of(&rt, alloc, "base64", text.as_bytes(), peers)?;
-            assert!(rt;
-                ended.written.as_slice() == bytes.as_bytes(),
-                "{groups}, {piece}"
-            );
-            assert!(rt; ended.writes <= bytes.len() / 4000 + 1, "{groups}, {piece}");
+            assert_few_writes(&rt, rt.alloc(), groups, piece)?;
         }
     }
     Ok(())

@@ -74,25 +74,36 @@ fn input_that_is_no_text(rt: HostRuntime) -> Result<(), Fail> {
     Ok(())
 }
 
+/// Asserts how `execute` ends with these words, before it reads: with a line on standard error, and a status.
+fn assert_unread(
+    rt: &impl Abort,
+    alloc: Global,
+    words: Result<Vec<String>, Fault>,
+    line: &str,
+    status: u8,
+) {
+    let mut reader = "data:,x".as_bytes();
+    let mut written = Vec::new(alloc);
+    let mut said = Vec::new(alloc);
+    let ended = execute(alloc, words, &mut reader, &mut written, &mut said);
+    assert!(rt; ended == status && written.is_empty() && reader.len() == 7);
+    assert!(rt; said.as_slice() == line.as_bytes());
+}
+
 #[test]
-fn words_that_are_missing(rt: HostRuntime) -> Result<(), Fail> {
+fn words_that_are_missing(rt: HostRuntime) {
+    assert_unread(&rt, rt.alloc(), Ok(Vec::new(rt.alloc())), USAGE, 2);
+    assert_unread(&rt, rt.alloc(), Err(Fault::Read), "read failed\n", 3);
+}
+
+#[test]
+fn words_that_are_missing_by_calls(rt: HostRuntime) {
     let mut reader = "data:,x".as_bytes();
     let mut written = Vec::new(rt.alloc());
-    let mut line = Vec::new(rt.alloc());
-    let none = Ok(Vec::new(rt.alloc()));
-    let status = execute(rt.alloc(), none, &mut reader, &mut written, &mut line);
-    assert!(rt; status == 2 && written.is_empty());
-    assert!(rt; line.as_slice() == USAGE.as_bytes());
     let mut line = Vec::new(rt.alloc());
     let status = status_by_calls(rt.alloc(), &[], &mut reader, &mut written, &mut line);
     assert!(rt; status == 2 && written.is_empty());
     assert!(rt; line.as_slice() == USAGE.as_bytes());
-    let mut line = Vec::new(rt.alloc());
-    let unread = Err(Fault::Read);
-    let status = execute(rt.alloc(), unread, &mut reader, &mut written, &mut line);
-    assert!(rt; status == 3 && written.is_empty() && reader.len() == 7);
-    assert!(rt; line.as_slice() == "read failed\n".as_bytes());
-    Ok(())
 }
 
 #[test]

@@ -1,6 +1,6 @@
 //! Each read and each write that fails.
 
-use super::peers::{BYTEWISE, Peers, SOUND, outcome_of};
+use super::peers::{BYTEWISE, Ended, Peers, SOUND, outcome_of};
 use std::alloc::Global;
 use std::process::Abort;
 use std::test::Fail;
@@ -121,47 +121,72 @@ fn written_before(words: &str, read: usize) -> usize {
     }
 }
 
-/// Asserts how a command that writes an output ends if each of its reads, and each of its writes, fails in turn.
-fn assert_failing(
+/// A command, its input and its whole output.
+#[derive(Clone, Copy)]
+struct Case<'a> {
+    words: &'a str,
+    input: &'a [u8],
+    output: &'a [u8],
+}
+
+/// Asserts that a command ends with status 3, after the first bytes of its output. Returns how it ended.
+fn assert_fails(
     rt: &impl Abort,
     alloc: Global,
-    words: &str,
-    input: &[u8],
-    output: &[u8],
-) -> Result<(), Fail> {
-    let sound = outcome_of(rt, alloc, words, input, BYTEWISE)?;
-    assert!(rt;
-        sound.written.as_slice() == output && sound.writes == output.len(),
-        "{words}"
-    );
-    for failing_read in 1..=sound.reads {
+    case: Case,
+    peers: Peers,
+    len: usize,
+    line: &str,
+) -> Result<Ended, Fail> {
+    let ended = outcome_of(rt, alloc, case.words, case.input, peers)?;
+    let written = case.output.get(..len).unwrap_or(case.output);
+    ended.assert_is(rt, case.words, written, line, 3);
+    Ok(ended)
+}
+
+/// Asserts how a command ends if each of its reads fails in turn.
+fn assert_each_read(rt: &impl Abort, alloc: Global, case: Case, reads: usize) -> Result<(), Fail> {
+    for failing_read in 1..=reads {
         let peers = Peers {
             failing_read,
             ..BYTEWISE
         };
-        let ended = outcome_of(rt, alloc, words, input, peers)?;
-        let written = output
-            .get(..written_before(words, failing_read))
-            .unwrap_or(output);
-        ended.assert_is(rt, words, written, "read failed\n", 3);
-        assert!(rt; ended.reads == failing_read, "{words}");
-    }
-    for failing_write in 1..=sound.writes {
-        for takes_nothing in [false, true] {
-            let peers = Peers {
-                failing_write,
-                takes_nothing,
-                ..BYTEWISE
-            };
-            let ended = outcome_of(rt, alloc, words, input, peers)?;
-            let written = output
-                .get(..failing_write.saturating_sub(1))
-                .unwrap_or(output);
-            ended.assert_is(rt, words, written, "write failed\n", 3);
-            assert!(rt; ended.writes == failing_write, "{words}");
-        }
+        let len = written_before(case.words, failing_read);
+        let ended = assert_fails(rt, alloc, case, peers, len, "read failed\n")?;
+        assert!(rt; ended.reads == failing_read, "{}", case.words);
     }
     Ok(())
+}
+
+/// Asserts how a command ends if each of its writes fails in turn, or writes nothing.
+fn assert_each_write(
+    rt: &impl Abort,
+    alloc: Global,
+    case: Case,
+    takes_nothing: bool,
+    writes: usize,
+) -> Result<(), Fail> {
+    for failing_write in 1..=writes {
+        let peers = Peers {
+            failing_write,
+            takes_nothing,
+            ..BYTEWISE
+        };
+        let len = failing_write.saturating_sub(1);
+        let ended = assert_fails(rt, alloc, case, peers, len, "write failed\n")?;
+        assert!(rt; ended.writes == failing_write, "{}", case.words);
+    }
+    Ok(())
+}
+
+/// Asserts how a command ends if each of its reads, and each of its writes, fails in turn.
+fn assert_failing(rt: &impl Abort, alloc: Global, case: Case) -> Result<(), Fail> {
+    let sound = outcome_of(rt, alloc, case.words, case.input, BYTEWISE)?;
+    assert!(rt; sound.written.as_slice() == case.output, "{}", case.words);
+    assert!(rt; sound.writes == case.output.len(), "{}", case.words);
+    assert_each_read(rt, alloc, case, sound.reads)?;
+    assert_each_write(rt, alloc, case, false, sound.writes)?;
+    assert_each_write(rt, alloc, case, true, sound.writes)
 }
 
 /// Commands, their inputs, and what they write.
@@ -183,7 +208,13 @@ const OUTPUTS: [[&str; 3]; 8] = [
 /// Asserts how the command of each row of a table ends if each of its reads, and each of its writes, fails in turn.
 fn assert_each_fails(rt: &impl Abort, alloc: Global, rows: &[[&str; 3]]) -> Result<(), Fail> {
     for [words, input, output] in rows {
-        assert_failing(rt, alloc, words, input.as_bytes(), output.as_bytes())?;
+        let (input, output) = (input.as_bytes(), output.as_bytes());
+        let case = Case {
+            words,
+            input,
+            output,
+        };
+        assert_failing(rt, alloc, case)?;
     }
     Ok(())
 }
@@ -193,30 +224,44 @@ fn each_call_fails_in_turn(rt: HostRuntime) -> Result<(), Fail> {
     assert_each_fails(&rt, rt.alloc(), &OUTPUTS)
 }
 
-#[test]
-fn writes_of_large_outputs(rt: HostRuntime) -> Result<(), Fail> {
-    let alloc = rt.alloc();
-    let body = "Abcdefghij".repeat(alloc, 1000)?;
-    let escaped = "%41bcdefghij".repeat(alloc, 1000)?;
-    let url = format!(in alloc; "data:,{escaped}")?;
-    let text = "QUJD".repeat(alloc, 3000)?;
-    let bytes = "ABC".repeat(alloc, 3000)?;
-    for (words, input, whole) in [("body", &url, &body), ("base64", &text, &bytes)] {
-        let all = outcome_of(&rt, alloc, words, input.as_bytes(), SOUND)?;
-        assert!(rt;
-            all.status == 0 && all.writes > 2 && all.writes < 10,
-            "{words}"
-        );
-        for failing_write in 1..=all.writes {
-            let peers = Peers {
-                failing_write,
-                ..SOUND
-            };
-            let ended = outcome_of(&rt, alloc, words, input.as_bytes(), peers)?;
-            let written = whole.as_bytes().get(..ended.written.len()).unwrap_or(&[]);
-            assert!(rt; written.len() < whole.len(), "{words}");
-            ended.assert_is(&rt, words, written, "write failed\n", 3);
-        }
+/// Asserts how a command with a large output ends if each of its writes fails in turn: after fewer bytes than the output has.
+fn assert_few_writes_fail(rt: &impl Abort, alloc: Global, case: Case) -> Result<(), Fail> {
+    let sound = outcome_of(rt, alloc, case.words, case.input, SOUND)?;
+    assert!(rt; sound.status == 0 && sound.writes > 2 && sound.writes < 10);
+    for failing_write in 1..=sound.writes {
+        let peers = Peers {
+            failing_write,
+            ..SOUND
+        };
+        let ended = outcome_of(rt, alloc, case.words, case.input, peers)?;
+        let len = ended.written.len();
+        assert!(rt; len < case.output.len(), "{}", case.words);
+        assert_fails(rt, alloc, case, peers, len, "write failed\n")?;
     }
     Ok(())
+}
+
+#[test]
+fn writes_of_a_large_body(rt: HostRuntime) -> Result<(), Fail> {
+    let body = "Abcdefghij".repeat(rt.alloc(), 1000)?;
+    let escaped = "%41bcdefghij".repeat(rt.alloc(), 1000)?;
+    let url = format!(in rt.alloc(); "data:,{escaped}")?;
+    let case = Case {
+        words: "body",
+        input: url.as_bytes(),
+        output: body.as_bytes(),
+    };
+    assert_few_writes_fail(&rt, rt.alloc(), case)
+}
+
+#[test]
+fn writes_of_large_base64(rt: HostRuntime) -> Result<(), Fail> {
+    let text = "QUJD".repeat(rt.alloc(), 3000)?;
+    let bytes = "ABC".repeat(rt.alloc(), 3000)?;
+    let case = Case {
+        words: "base64",
+        input: text.as_bytes(),
+        output: bytes.as_bytes(),
+    };
+    assert_few_writes_fail(&rt, rt.alloc(), case)
 }

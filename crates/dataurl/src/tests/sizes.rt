@@ -20,21 +20,33 @@ fn assert_written(
     Ok(())
 }
 
-/// Asserts what each command writes if header, body, fragment and value have this length.
-fn assert_sizes(rt: &impl Abort, alloc: Global, len: usize, peers: Peers) -> Result<(), Fail> {
+/// Asserts what the commands for URLs write if header, body and fragment have this length.
+fn assert_urls(rt: &impl Abort, alloc: Global, len: usize, peers: Peers) -> Result<(), Fail> {
     let value = "d".repeat(alloc, len)?;
     let body = "e".repeat(alloc, len)?;
     let fragment = "f".repeat(alloc, len)?;
     let url = format!(in alloc; "data:a/b;c={value},{body}#{fragment}")?;
-    let line = format!(in alloc; "a/b;c={value}\n")?;
     assert_written(rt, alloc, "body", url.as_str(), body.as_str(), peers)?;
+    let line = format!(in alloc; "a/b;c={value}\n")?;
     assert_written(rt, alloc, "mime", url.as_str(), line.as_str(), peers)?;
+    let line = format!(in alloc; "{fragment}\n")?;
+    assert_written(rt, alloc, "fragment", url.as_str(), line.as_str(), peers)
+}
+
+/// Asserts what `type` and `base64` write if a value has this length, and a text this number of groups.
+fn assert_texts(rt: &impl Abort, alloc: Global, len: usize, peers: Peers) -> Result<(), Fail> {
+    let value = "d".repeat(alloc, len)?;
+    let line = format!(in alloc; "a/b;c={value}\n")?;
     assert_written(rt, alloc, "type", line.trim(), line.as_str(), peers)?;
-    let encoded = format!(in alloc; "{fragment}\n")?;
-    assert_written(rt, alloc, "fragment", url.as_str(), encoded.as_str(), peers)?;
     let text = "QUJD".repeat(alloc, len)?;
     let bytes = "ABC".repeat(alloc, len)?;
     assert_written(rt, alloc, "base64", text.as_str(), bytes.as_str(), peers)
+}
+
+/// Asserts what each command writes for parts of this length.
+fn assert_sizes(rt: &impl Abort, alloc: Global, len: usize, peers: Peers) -> Result<(), Fail> {
+    assert_urls(rt, alloc, len, peers)?;
+    assert_texts(rt, alloc, len, peers)
 }
 
 #[test]
@@ -79,27 +91,34 @@ fn many_reads(rt: HostRuntime) -> Result<(), Fail> {
     )
 }
 
-#[test]
-fn a_read_that_fails_after_many(rt: HostRuntime) -> Result<(), Fail> {
-    let text = "QUJD".repeat(rt.alloc(), 1500)?;
-    let bytes = "ABC".repeat(rt.alloc(), 1250)?;
-    let url = format!(in rt.alloc(); "data:,{text}")?;
+/// Asserts what a command has written if its read of the 5,001st byte fails.
+fn assert_read_fails(
+    rt: &impl Abort,
+    alloc: Global,
+    words: &str,
+    input: &str,
+    written: &str,
+) -> Result<(), Fail> {
     let peers = Peers {
         failing_read: 5001,
         ..BYTEWISE
     };
-    for words in ["body", "mime", "fragment", "type", "base64"] {
-        let input = if words == "base64" { &text } else { &url };
-        let ended = outcome_of(&rt, rt.alloc(), words, input.as_bytes(), peers)?;
-        let written = if words == "base64" {
-            bytes.as_str()
-        } else {
-            ""
-        };
-        ended.assert_is(&rt, words, written.as_bytes(), "read failed\n", 3);
-        assert!(rt; ended.reads == 5001, "{words}");
-    }
+    let ended = outcome_of(rt, alloc, words, input.as_bytes(), peers)?;
+    ended.assert_is(rt, words, written.as_bytes(), "read failed\n", 3);
+    assert!(rt; ended.reads == 5001, "{words}");
     Ok(())
+}
+
+#[test]
+fn a_read_that_fails_after_many(rt: HostRuntime) -> Result<(), Fail> {
+    let body = "e".repeat(rt.alloc(), 6000)?;
+    let url = format!(in rt.alloc(); "data:,{body}")?;
+    for words in ["body", "mime", "fragment", "type"] {
+        assert_read_fails(&rt, rt.alloc(), words, url.as_str(), "")?;
+    }
+    let text = "QUJD".repeat(rt.alloc(), 1500)?;
+    let bytes = "ABC".repeat(rt.alloc(), 1250)?;
+    assert_read_fails(&rt, rt.alloc(), "base64", text.as_str(), bytes.as_str())
 }
 
 #[test]

@@ -8,12 +8,12 @@ use Rattle.data_url.proofs.header.read_media.Goals.{then-starts_with, else-start
 pub returns : goal.returns
 returns c =
     let head : IsHead (with_plain c.args.media.now) (chars c.if-starts_with.head.type_.now)
-        (chars c.if-starts_with.head.subtype.now) (chars c.if-starts_with.head.parameters.now) =
+    (chars c.if-starts_with.head.subtype.now) (chars c.if-starts_with.head.parameters.now) =
     elim c.if-starts_with.branch [
-      then-starts_with w ↦
-        let same = plain_added c.args.media.now c.requires (grind arith) in grind arith
+      | then-starts_with w ↦
+          let same = plain_added c.args.media.now c.requires (grind arith) in grind arith
       | else-starts_with+in-Some w ↦
-        let same = plain_stays c.args.media.now c.requires (λ e. absurd (grind arith)) in grind arith
+          let same = plain_stays c.args.media.now c.requires (λ e. absurd (grind arith)) in grind arith
     ] in
     IfOk-weaker c.record.result _ _ (λ mime. parts_for (record_of mime) refl head) c.record.ensures
 
