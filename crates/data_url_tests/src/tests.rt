@@ -4,6 +4,7 @@
 
 mod base64;
 mod base64_blocks;
+mod callers;
 mod cuts;
 mod mime;
 mod pieces;

@@ -1,11 +1,5 @@
-//! Worked examples of the callers. A helper that takes values by reference serves many rows, since each function is proved.
+//! The callers in `crates/uses`.
 
-use crate::body::{append_body, body_len};
-use crate::chunks::feed_chunks;
-use crate::fetch::{FetchError, Reason, content_length, fetch};
-use crate::inliner::{Part, inline};
-use crate::loader::{LoadError, load};
-use crate::negotiation::best;
 use data_url::DataUrl;
 use data_url::forgiving_base64::Decoder;
 use data_url::mime::Mime;
@@ -13,6 +7,12 @@ use std::alloc::{AllocError, Global};
 use std::io::{self, Write};
 use std::process::Abort;
 use std::test::Fail;
+use uses::body::{append_body, body_len};
+use uses::chunks::feed_chunks;
+use uses::fetch::{FetchError, Reason, content_length, fetch};
+use uses::inliner::{Part, inline};
+use uses::loader::{LoadError, load};
+use uses::negotiation::best;
 
 /// A sink that has room for a number of bytes, takes one at a time, and then fails.
 #[derive(Drop)]
