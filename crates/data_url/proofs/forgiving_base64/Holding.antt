@@ -238,6 +238,13 @@ module _ {F E : Type 0} (step : F → List ℕ → Result (Unit {0}) E → F →
             (b, cc (joined, append_assoc (joined_pieces h.run) a b, h.bytes_are)) (λ e. absurd cc) c.answer);
       }
 
+  -- the closure is called with a front of the bytes that are held
+  pub reads_passed : {d d1 d2 : State F} {t : List ℕ} (r : Result (Unit {0}) (DecodeError E)) (a b : List ℕ)
+      → (length b + 2) / 3 < (length a + length b + 2) / 3 → Reads step d t (a ++ b) d1 → CallsOnce step d1 a r d2
+      → MatchResult r (λ u. Reads step d t b d2) (λ e. Feeds step d t (Err e) d2)
+  reads_passed (Ok u) a b some h c = reads_called a b some h c
+  reads_passed (Err e) a b some h c = reads_refused a b some h c
+
   -- a text was fed if it was read and no bytes are held
   pub reads_feeds : {d d1 : State F} {t : List ℕ} → Reads step d t [] d1 → Feeds step d t (Ok tt) d1
   reads_feeds {d} {d1} {t} h = record {

@@ -102,10 +102,12 @@ where
         ensures flushed { Flushes (CalledAt F.FnMut) (state_of self.old) bytes.now result (state_of self.new) }
     {
         let mut at = 0;
-        while at < bytes.len() {
-            let end = (at + PIECE).min(bytes.len());
-            self.write(&bytes[at..end])?;
-            at = end;
+        while bytes.len() - at >= PIECE {
+            self.write(&bytes[at..at + PIECE])?;
+            at += PIECE;
+        }
+        if at < bytes.len() {
+            return self.write(&bytes[at..]);
         }
         Ok(())
     }

@@ -87,9 +87,6 @@ impl HeldGroups {
         ensures within { result ≤ length text.now }
         ensures fills { Fills (held_bytes self.old) (take result text.now) (held_bytes self.new) }
     {
-        if text.len() >= 16 {
-            return self.fill_rows(text);
-        }
         if text.len() < 4
             || !is_symbol(text[0])
             || !is_symbol(text[1])
@@ -97,6 +94,9 @@ impl HeldGroups {
             || !is_symbol(text[3])
         {
             return 0;
+        }
+        if text.len() >= 16 {
+            return self.fill_rows(text);
         }
         self.push(group_of(text[0], text[1], text[2], text[3]));
         4
