@@ -166,6 +166,7 @@ fn push_base64(rows: &mut Vec<Row>) {
         (76, "lines", "\n"),
         (60, "crlf", "\r\n"),
         (76, "indented", "\n    "),
+        (1, "spaced", " "),
     ] {
         for (len, size) in SIZES {
             let name = format!("base64 {kind} {size}");

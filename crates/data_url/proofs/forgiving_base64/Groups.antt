@@ -1,22 +1,22 @@
 -- Groups of four symbols, and texts that are fed in two parts.
-use Rattle.std.proofs.Common.{get_or, get_or-append-add, subst, take, drop, Fits, w8, refl, ap, ap₂, arith, length-take}
+use Rattle.std.proofs.Common.{get_or, take, drop, refl, ap, ap₂, arith, length-take}
 use Rattle.std.proofs.Common.{get_or-take, take-append-drop, append-nil, take-take, take_at}
 use Rattle.std.proofs.Common.{length-take-le, ◌∙◌, false, min, None, take-add, append_assoc, length-append, ◌/◌}
-use Rattle.std.proofs.Common.{◌≡◌, ℕ, suc, ◌+◌, ◌*◌, ◌≤◌, true, ◌&&◌, ◌||◌, List, [], ◌∷◌, ◌++◌, map, length, ◌-◌}
+use Rattle.std.proofs.Common.{◌≡◌, ℕ, ◌+◌, ◌*◌, ◌≤◌, true, ◌&&◌, ◌||◌, List, [], ◌∷◌, ◌++◌, map, length, ◌-◌}
 use Rattle.std.{proofs.Math.Seq.{take-append-add}, proofs.lemmas.Bool.{and_parts}, specs.Char.{is_ascii_whitespace}}
 use Rattle.std.{proofs.lemmas.List.Elements.{filter-append}, proofs.lemmas.List.Folds.{list_all-append}}
 use Rattle.std.proofs.lemmas.List.Sums.{list_all-from_AllPass, prefix_len-le-length, prefix_len_passes}
-use Rattle.std.proofs.lemmas.List.{get_or_past, length-map, take-map, take_rest, map-append, length-replicate}
+use Rattle.std.proofs.lemmas.List.{length-map, take_rest, map-append, length-replicate}
 use Rattle.std.specs.List.{list_all, prefix_len, filter, list_any}
 use Rattle.data_url.specs.Base64.{decoded, first_fault, left_padding, left_symbols, left_text}
 use Rattle.data_url.specs.Base64.{group_bytes, group_number, groups, is_symbol, symbol_value, values, after_groups}
-use Rattle.data_url.specs.{Laws.{GoesOn, TwoFeeds}, Steps.Groups.{Fills, is_symbol_or_space}, Steps.Lanes.{value_of}}
+use Rattle.data_url.specs.{Laws.{GoesOn, TwoFeeds}, Steps.Groups.{Fills, is_symbol_or_space}, Steps.Lanes.{DecodesFront}}
 use Rattle.data_url.proofs.forgiving_base64.Padding.{after_groups-append, after_groups-map, before-append, before_none}
 use Rattle.data_url.proofs.forgiving_base64.Padding.{any_filter, filter_every, classes, every_list_all, filter_all}
 use Rattle.data_url.proofs.forgiving_base64.Padding.{done_is, every_after, fault-append, fault_byte, fault_invalid}
 use Rattle.data_url.proofs.forgiving_base64.Padding.{fault_none, fault_some, fault_text, groups-append, is_pad, kind_is}
 use Rattle.data_url.proofs.forgiving_base64.Padding.{length_alike, no_fault_valid, pads_of_text, symbols_of_text}
-use Rattle.data_url.proofs.{forgiving_base64.Padding.{space_alone}, forgiving_base64.Vectors.{groups_whole, value_is}}
+use Rattle.data_url.proofs.{forgiving_base64.Padding.{space_alone}, forgiving_base64.Vectors.{groups_whole}}
 
 -- Groups at the start of a text.
 
@@ -40,28 +40,7 @@ pub filter_length : (t : List ℕ) → length (filter is_symbol t) ≤ length t
 filter_length [] = omega arith
 filter_length (c ∷ t) = grind (arith, filter_length t)
 
--- if x has at least 4 * m values, the first 3 * m bytes of its groups are those of its first 4 * m values
-pub take_groups : (m : ℕ) (x : List ℕ) → 4 * m ≤ length x → take (3 * m) (groups x) ≡ groups (take (4 * m) x)
-take_groups m x h =
-    let front = take (4 * m) x in
-    let long : length front ≡ 4 * m = length-take-le (4 * m) x h in
-    let size : length (groups front) ≡ 3 * m = omega (arith, groups_size front) in
-    cc (
-      take-append-drop (4 * m) x,
-      groups_whole front (drop (4 * m) x) (omega arith),
-      take_at (groups front)
-          (groups (drop (4 * m) x)) (3 * m) size,
-    )
-
 -- A text of symbols
-
--- for bytes that are symbols, `value_of` is `symbol_value`
-pub symbols_values : (s : List ℕ) → ((i : ℕ) → Fits w8 (get_or s i 0)) → list_all is_symbol s ≡ true
-    → map value_of s ≡ map symbol_value s
-symbols_values [] fits h = refl
-symbols_values (b ∷ s) fits h =
-    let p = and_parts (is_symbol b) (list_all is_symbol s) h in
-    ap₂ (λ x (y : List ℕ). x ∷ y) (value_is b (fits 0).fits p.0) (symbols_values s (λ i. fits (suc i)) p.1)
 
 -- if all bytes of a text are symbols, all are symbols or whitespace
 pub symbols_alone : (s : List ℕ) → list_all is_symbol s ≡ true → list_all is_symbol_or_space s ≡ true
@@ -69,10 +48,6 @@ symbols_alone [] h = refl
 symbols_alone (b ∷ s) h =
     let p = and_parts (is_symbol b) (list_all is_symbol s) h in
     ap₂ (λ x y. x && y) (ap (λ t. t || is_ascii_whitespace b) p.0) (symbols_alone s p.1)
-
--- if each byte of s is at most 255, so is each of its first n bytes
-pub fits_take : (n : ℕ) (s : List ℕ) → ((i : ℕ) → Fits w8 (get_or s i 0)) → (i : ℕ) → Fits w8 (get_or (take n s) i 0)
-fits_take n s fits i = grind (arith, get_or-take, get_or_past, length-take)
 
 -- the longest prefix of white space is white space
 pub spaces_front : (t : List ℕ) → list_all is_ascii_whitespace (take (prefix_len is_ascii_whitespace t) t) ≡ true
@@ -88,19 +63,17 @@ spaces_only (c ∷ t) h =
     let r = spaces_only t p.1 in
     grind (arith)
 
--- the groups that n bytes begin with, and white space after them
-pub fill_row : (held block : List ℕ) (n m k : ℕ) → n ≤ length block → 4 * m ≤ n → 4 * m + k ≤ length block
-    → ((i : ℕ) → Fits w8 (get_or block i 0)) → list_all is_symbol (take (4 * m) block) ≡ true
+-- the groups that a text begins with, and white space after them
+fill_row : (held block bytes : List ℕ) (m k : ℕ) → 4 * m + k ≤ length block → list_all is_symbol (take (4 * m) block) ≡ true
     → list_all is_ascii_whitespace (take k (drop (4 * m) block)) ≡ true
-    → Fills held (take (4 * m + k) block) (held ++ take (3 * m) (groups (map value_of (take n block))))
-fill_row held block n m k long few within fits all spaces =
+    → bytes ≡ groups (map symbol_value (take (4 * m) block)) → Fills held (take (4 * m + k) block) (held ++ bytes)
+fill_row held block bytes m k within all spaces is =
     let q = take (4 * m) block in
     let only = spaces_only (take k (drop (4 * m) block)) spaces in
     let size : length q ≡ 4 * m = length-take-le (4 * m) block (omega arith) in
     let alone : filter is_symbol q ≡ q = filter_all is_symbol q (every_list_all q all) in
     let symbols : filter is_symbol (take (4 * m + k) block) ≡ q =
     cc (take-add (4 * m) k block, filter-append is_symbol q (take k (drop (4 * m) block)), append-nil q) in
-    let values : map value_of q ≡ map symbol_value q = symbols_values q (fits_take (4 * m) block fits) all in
     record {
       whole = record {
         spaced = cc (
@@ -110,30 +83,25 @@ fill_row held block n m k long few within fits all spaces =
         );
         whole = omega (arith, ap length symbols);
       };
-      held_are = cc (
-        take_groups m (map value_of (take n block))
-            (omega (arith, length-map (take n block) value_of, length-take-le n block long)),
-        take-map value_of (4 * m) (take n block),
-        take-take (4 * m) n block few,
-      );
+      held_are = cc (is, symbols);
     }
 
 -- the groups that a text begins with, and white space after them, if its first row was decoded and put after g groups
 pub row_fills : (old new decoded row text : List ℕ) (g m k : ℕ) → 3 * g + 16 ≤ length old
-    → take (3 * g + 16) new ≡ take (3 * g) old ++ decoded → take 12 decoded ≡ groups (map value_of row)
-    → row ≡ take 16 text → m ≤ 4 → 16 ≤ length text → 4 * m + k ≤ length text
-    → ((i : ℕ) → Fits w8 (get_or text i 0)) → list_all is_symbol (take (4 * m) text) ≡ true
+    → take (3 * g + 16) new ≡ take (3 * g) old ++ decoded → DecodesFront row decoded → row ≡ take 16 text → m ≤ 4
+    → 4 * m + k ≤ length text → list_all is_symbol (take (4 * m) text) ≡ true
     → list_all is_ascii_whitespace (take k (drop (4 * m) text)) ≡ true
     → Fills (take (3 * g) old) (take (4 * m + k) text) (take (3 * (g + m)) new)
-row_fills old new decoded row text g m k room put is first few long within fits all spaces =
+row_fills old new decoded row text g m k room put decodes is few within all spaces =
     let held = take (3 * g) old in
     let size : 3 * (g + m) ≡ length held + 3 * m = omega (arith, length-take-le (3 * g) old (omega arith)) in
-    let e : take (3 * (g + m)) new ≡ held ++ take (3 * m) (groups (map value_of (take 16 text))) = cc (
+    let front : take (4 * m) row ≡ take (4 * m) text = ap (take (4 * m)) is ∙ take-take (4 * m) 16 text (omega arith) in
+    let bytes = decodes m few (ap (list_all is_symbol) front ∙ all) in
+    let e : take (3 * (g + m)) new ≡ held ++ take (3 * m) decoded = cc (
       take-take (3 * (g + m)) (3 * g + 16) new (omega arith),
       take-append-add held decoded (3 * m),
-      take-take (3 * m) 12 decoded (omega arith),
     ) in
-    rw e (fill_row held text 16 m k long (omega arith) within fits all spaces)
+    rw e (fill_row held text (take (3 * m) decoded) m k within all spaces (cc (bytes, front)))
 
 -- no bytes are read
 pub fills_nothing : (held : List ℕ) → Fills held [] held
@@ -194,13 +162,6 @@ leaves_read {text = text} {rest = rest} l =
     let size = ap length l.text_is ∙ length-append l.front rest in
     let n : length text - length rest ≡ length l.front = omega (arith, size) in
     (omega (arith, size), rw (n, l.text_is, take_at l.front rest (length l.front) refl) l.fills)
-
--- if each byte of the text is at most 255, so is each of the rest
-pub leaves_fits : {held text rest held' : List ℕ} → Leaves held text rest held'
-    → ((i : ℕ) → Fits w8 (get_or text i 0)) → (i : ℕ) → Fits w8 (get_or rest i 0)
-leaves_fits {rest = rest} l fits i =
-    subst (Fits w8) (ap (λ t. get_or t (length l.front + i) 0) l.text_is ∙ get_or-append-add l.front rest i 0)
-    (fits (length l.front + i))
 
 -- one group
 pub fill_one : (held text bytes : List ℕ) → 4 ≤ length text → is_symbol (get_or text 0 0) ≡ true

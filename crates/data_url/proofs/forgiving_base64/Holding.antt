@@ -3,17 +3,17 @@ use Rattle.std.proofs.Common.{Option, None, Some, is_some, Result, Ok, Err, refl
 use Rattle.std.proofs.Common.{append_assoc, drop-drop, length-append, length-take, take-append-drop, append-nil}
 use Rattle.std.proofs.Common.{false, cond, min, ◌||◌, List, [], ◌∷◌, ◌++◌, length, map, drop, get_or, take, take-add}
 use Rattle.std.{proofs.Common.{get_or-drop, length-drop, MatchResult}, specs.Option.{option_or}}
-use Rattle.std.proofs.Common.{◌*◌, ◌≡◌, ℕ, suc, zero, ◌+◌, ◌-◌, ◌/◌, ◌<◌, ◌≤◌, Fits, w8, length-take-le, Bool, true}
+use Rattle.std.proofs.Common.{◌*◌, ◌≡◌, ℕ, suc, zero, ◌+◌, ◌-◌, ◌/◌, ◌<◌, ◌≤◌, length-take-le, Bool, true}
 use Rattle.std.{proofs.lemmas.Bool.{and_parts, true≢false}, specs.List.{filter, list_all}, specs.Result.{result_err}}
 use Rattle.std.proofs.lemmas.List.{nil_from_length, take_more, take_rest}
 use Rattle.data_url.specs.Base64.{Kind, after_groups, first_fault, groups, is_symbol, left_padding, left_symbols}
 use Rattle.data_url.specs.{Base64.{symbol_value}, Decoder.{Feeds, IsLeft, State, left_over}, Run.{IsRun, joined_pieces}}
-use Rattle.data_url.specs.{Mime.{Every}, Steps.Lanes.{value_of}, declared.forgiving_base64.held.HeldGroups.{HeldGroups}}
+use Rattle.data_url.specs.{Mime.{Every}, declared.forgiving_base64.held.HeldGroups.{HeldGroups}}
 use Rattle.data_url.specs.Steps.Groups.{Fills, IsWhole, held_bytes, is_symbol_or_space}
 use Rattle.data_url.specs.Steps.Holding.{Adds, CallsOnce, Flushes, Gains, IsBetweenGroups, Reads, Refuses}
 use Rattle.data_url.specs.declared.forgiving_base64.DecodeError.{DecodeError}
 use Rattle.data_url.specs.declared.forgiving_base64.DecodeError.TheVariants.{InvalidBase64, WriteError}
-use Rattle.data_url.proofs.forgiving_base64.Groups.{fits_take, symbols_alone, symbols_values}
+use Rattle.data_url.proofs.forgiving_base64.Groups.{symbols_alone}
 use Rattle.data_url.proofs.forgiving_base64.Padding.{every_list_all, fault-append, fault_byte, filter_all, is_pad}
 use Rattle.data_url.proofs.forgiving_base64.Padding.{length-after_groups}
 use Rattle.data_url.proofs.forgiving_base64.Steps.{IsSound, adds_none, adds_text, fault_space, fault_symbol, feeds_stop}
@@ -280,19 +280,16 @@ module _ {F E : Type 0} (step : F → List ℕ → Result (Unit {0}) E → F →
       feeds_stop step s (at + 1) (subst P more (feeds_then step (reads_feeds after) (refuses_feeds left f same)))
 
   -- a block of symbols is read
-  pub block_reads : {d d1 : State F} {bytes : List ℕ} (s : List ℕ) (at : ℕ) → ((i : ℕ) → Fits w8 (get_or s i 0))
-      → IsBetweenGroups d1 → at + 64 ≤ length s
+  pub block_reads : {d d1 : State F} {bytes : List ℕ} (s : List ℕ) (at : ℕ) → IsBetweenGroups d1 → at + 64 ≤ length s
       → true ≡ list_all is_symbol (take 64 (take (length s - at) (drop at s)))
-      → bytes ≡ groups (map value_of (take 64 (take (length s - at) (drop at s))))
+      → bytes ≡ groups (map symbol_value (take 64 (take (length s - at) (drop at s))))
       → Reads step d (take at s) [] d1 → Reads step d (take (at + 64) s) bytes d1
-  block_reads s at fits none within all is r =
+  block_reads s at none within all is r =
       let block = take (length s - at) (drop at s) in
       let long : length (take 64 block) ≡ 64 =
       length-take-le 64 block (omega (arith, length-take (length s - at) (drop at s), length-drop at s)) in
       let alone = filter_all is_symbol (take 64 block) (every_list_all (take 64 block) (sym all)) in
-      let values = symbols_values (take 64 block) (fits_take 64 block (fits_take (length s - at) (drop at s)
-      (λ i. subst (Fits w8) (sym (get_or-drop at s i 0)) (fits (at + i))))) (sym all) in
       reads_more s at 64 r (adds_whole (take 64 block) none r.going (record {
         spaced = symbols_alone (take 64 block) (sym all);
         whole = omega (arith, long, ap length alone);
-      }) (cc (is, values, alone)))
+      }) (cc (is, alone)))

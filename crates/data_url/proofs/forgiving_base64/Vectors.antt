@@ -1,17 +1,18 @@
 -- Blocks of 64 symbols in vectors. For `blocks.rt` and `lanes.rt`.
 use Rattle.std.proofs.Common.{List, [], ◌∷◌, ◌++◌, map, lit<, drop-drop, ◌≡◌, ℕ, ◌<◌, ltb, true, cond, eqb, get_or}
 use Rattle.std.proofs.Common.{append_assoc, length-take-le, length, take, Fits, w8, ap, length-drop, take-add, ◌+◌, ◌*◌}
-use Rattle.std.proofs.Common.{◌/◌, ◌%◌, ◌^◌, Bool, not, refl, sym, ◌∙◌, arith, suc, zero, ext_get_or, take_all, subst}
+use Rattle.std.proofs.Common.{◌/◌, ◌%◌, ◌^◌, Bool, not, refl, sym, ◌∙◌, ap₂, arith, suc, zero, ext_get_or, take_all, subst}
+use Rattle.std.proofs.Common.{get_or-take}
 use Rattle.std.{proofs.Common.{◌≤◌, ◌&&◌, drop, bit_or}, proofs.lemmas.List.Folds.{list_all-append}}
 use Rattle.std.{proofs.Math.Bool.{and-true, and_assoc}, specs.List.{range_with_len, list_all}}
-use Rattle.std.proofs.lemmas.Bool.{agree_below_at, cond-true, eqb-true, ltb-true, cases_eq, ne_eqb}
-use Rattle.std.proofs.lemmas.List.{get_or-map, length-map, map-append, nil_from_length}
+use Rattle.std.proofs.lemmas.Bool.{agree_below_at, and_parts, cond-true, eqb-true, ltb-true, cases_eq, ne_eqb}
+use Rattle.std.proofs.lemmas.List.{get_or-map, length-map, map-append, nil_from_length, take-map}
 use Rattle.std.{proofs.lemmas.Nat.{and_le_r, and_le_l, or_lt}, proofs.lemmas.Simd.{length-swz_l, pick_l_whole, swz_l}}
 use Rattle.std.proofs.lemmas.Simd.{SwzOk-from_below, get_or_narrower, bitmask_splat, chunk-fits, mask_l-lt}
 use Rattle.std.proofs.lemmas.Simd.{zip2_of_maps, Each1-get_or, SwzOk, length-zip2, map-map, get_or-swz_l_below}
 use Rattle.std.specs.Char.{is_ascii_whitespace as std_whitespace, is_ascii_whitespace}
 use Rattle.data_url.specs.Base64.{is_symbol, symbol_value, group_bytes, group_number, groups, after_groups}
-use Rattle.data_url.specs.Steps.Lanes.{mark_of, numbers, value_of}
+use Rattle.data_url.specs.Steps.Lanes.{DecodesFront, mark_of, numbers, value_of}
 use Rattle.data_url.specs.declared.forgiving_base64.alphabet.TheConstants.{NO_SYMBOL, VALUES}
 use Rattle.data_url.proofs.forgiving_base64.Padding.{groups-append, length-after_groups}
 use lib.Bits.{or_add_and}
@@ -100,10 +101,36 @@ value_is b l s =
     let same = agree_below_at agrees (λ b. true) 256 b refl l in
     grind (arith, eqb-true (value_of b) (symbol_value b))
 
--- all values are below 64
-pub values_below : (v : List ℕ) → Each1 (λ x. x < 64) (map value_of v)
-values_below [] = tt
-values_below (b ∷ v) = grind (arith, values_below v, and_le_r, get_or)
+-- the items of symbols are their values, and below 64
+pub front_values : (s : List ℕ) → Each1 (Fits w8) s → list_all is_symbol s ≡ true
+    → (map value_of s ≡ map symbol_value s) × Each1 (λ x. x < 64) (map value_of s)
+front_values [] fits h = (refl, tt)
+front_values (b ∷ s) fits h =
+    let p = and_parts (is_symbol b) (list_all is_symbol s) h in
+    let rest = front_values s fits.1 p.1 in
+    let small = λ (b : ℕ). cond (is_symbol b) (ltb (value_of b) 64) true in
+    let below = agree_below_at small (λ b. true) 256 b refl fits.0.fits in (
+      ap₂ (λ x (y : List ℕ). x ∷ y) (value_is b fits.0.fits p.0) rest.0,
+      (grind (arith, ltb-true (value_of b) 64), rest.1),
+    )
+
+-- the first items of a list of bytes are bytes
+each_take : (n : ℕ) (s : List ℕ) → Each1 (Fits w8) s → Each1 (Fits w8) (take n s)
+each_take zero s fits = tt
+each_take (suc n) [] fits = tt
+each_take (suc n) (b ∷ s) fits = (fits.0, each_take n s fits.1)
+
+-- what the lanes compute from bytes is below 256
+value_below : (s : List ℕ) (k : ℕ) → get_or (map value_of s) k 0 < 256
+value_below [] k = omega arith
+value_below (b ∷ s) zero = omega arith
+value_below (b ∷ s) (suc k) = value_below s k
+
+-- an item of a list of bytes is below 256, past its end too
+pub byte_below : (v : List ℕ) (k : ℕ) → Each1 (Fits w8) v → get_or v k 0 < 256
+byte_below [] k fits = omega arith
+byte_below (x ∷ v) zero fits = fits.0.fits
+byte_below (x ∷ v) (suc k) fits = byte_below v k fits.1
 
 -- Numbers of groups
 
@@ -132,48 +159,85 @@ computed v =
     (12 ∷ 12 ∷ 12 ∷ 12 ∷ []))
     (pair_sums (pair_sums (products v (0 ∷ 0 ∷ 64 ∷ 1 ∷ 0 ∷ 0 ∷ 64 ∷ 1 ∷ 0 ∷ 0 ∷ 64 ∷ 1 ∷ 0 ∷ 0 ∷ 64 ∷ 1 ∷ []))))
 
--- from a row of values below 64 that is written out, lanes compute the numbers of its groups
-numbers_row : (f : ℕ → ℕ) → ((k : ℕ) → f k < 64) → computed (row f) ≡ numbers (row f)
+-- from a row of bytes that is written out, lanes compute the numbers of its groups
+numbers_row : (f : ℕ → ℕ) → ((k : ℕ) → f k < 256) → computed (row f) ≡ numbers (row f)
 numbers_row f h = grind arith
 
--- from 16 values below 64, lanes compute the numbers of their groups
-pub numbers_is : (v : List ℕ) → length v ≡ 16 → Each1 (λ x. x < 64) v → computed v ≡ numbers v
-numbers_is v long h =
+-- from 16 bytes, lanes compute the numbers of their groups
+pub numbers_is : (v : List ℕ) → length v ≡ 16 → Each1 (Fits w8) v → computed v ≡ numbers v
+numbers_is v long fits =
     let P : List ℕ → Type 0 = λ l. computed l ≡ numbers l in
-    subst P (row_is v long) (numbers_row (λ k. get_or v k 0) (λ k. below_at v k h))
+    subst P (row_is v long) (numbers_row (λ k. get_or v k 0) (λ k. byte_below v k fits))
 
 -- Bytes of numbers
 
--- the bytes of four numbers, in the order of the text
+-- the bytes of four numbers, in the order of the text, and four more
 abbrev pub packed : List ℕ → List ℕ
-packed ns = take 12 (pick_l 0 (digits_l 256 16 (number_l 4294967296 ns))
-    (2 ∷ 1 ∷ 0 ∷ 6 ∷ 5 ∷ 4 ∷ 10 ∷ 9 ∷ 8 ∷ 14 ∷ 13 ∷ 12 ∷ 15 ∷ 15 ∷ 15 ∷ 15 ∷ []))
+packed ns = pick_l 0 (digits_l 256 16 (number_l 4294967296 ns))
+    (2 ∷ 1 ∷ 0 ∷ 6 ∷ 5 ∷ 4 ∷ 10 ∷ 9 ∷ 8 ∷ 14 ∷ 13 ∷ 12 ∷ 15 ∷ 15 ∷ 15 ∷ 15 ∷ [])
 
 -- three bytes of a number below 2 ^ 24, the most significant one first, are those of a group of that number
 group_same : {x y z : ℕ} (n : ℕ) {r s : List ℕ} → n < 16777216 → x ≡ n / 256 ^ 2 % 256 → y ≡ n / 256 ^ 1 % 256
     → z ≡ n / 256 ^ 0 % 256 → r ≡ s → x ∷ y ∷ z ∷ r ≡ group_bytes n ++ s
 group_same {x} {y} {z} n {r} {s} l p q o e = grind arith
 
--- the bytes packed from the numbers of a row of values below 64, written out, are those of its groups
-packed_row : (f : ℕ → ℕ) → ((k : ℕ) → f k < 64) → packed (numbers (row f)) ≡ groups (row f)
-unfolding groups
-packed_row f h =
-    let l : (k : ℕ) → group_number (f k) (f (k + 1)) (f (k + 2)) (f (k + 3)) < 16777216 = λ k.
-    omega (arith, h k, h (k + 1), h (k + 2), h (k + 3)) in
-    let fit : Each1 (λ x. x < 4294967296) (numbers (row f)) =
-    (omega (arith, l 0), (omega (arith, l 4), (omega (arith, l 8), (omega (arith, l 12), tt)))) in
-    let e = λ (j i : ℕ) (a : i < 4) (b : 4 * j + i < 16). get_or_narrower 4294967296 4 256 16 (numbers (row f)) j i refl
-    fit a b in
-    group_same _ (l 0) (e 0 2 (lit< tt) (lit< tt)) (e 0 1 (lit< tt) (lit< tt)) (e 0 0 (lit< tt) (lit< tt))
-    (group_same _ (l 4) (e 1 2 (lit< tt) (lit< tt)) (e 1 1 (lit< tt) (lit< tt)) (e 1 0 (lit< tt) (lit< tt))
-    (group_same _ (l 8) (e 2 2 (lit< tt) (lit< tt)) (e 2 1 (lit< tt) (lit< tt)) (e 2 0 (lit< tt) (lit< tt))
-    (group_same _ (l 12) (e 3 2 (lit< tt) (lit< tt)) (e 3 1 (lit< tt) (lit< tt)) (e 3 0 (lit< tt) (lit< tt)) refl)))
+module _ (f : ℕ → ℕ) (bytes : (k : ℕ) → f k < 256) where
+  -- the number of four values below 64 has 24 bits
+  narrow : {n : ℕ} → ((k : ℕ) → k < n → f k < 64) → (k : ℕ) → k + 3 < n
+      → group_number (f k) (f (k + 1)) (f (k + 2)) (f (k + 3)) < 16777216
+  narrow small k l =
+      omega (arith, small k (omega arith), small (k + 1) (omega arith), small (k + 2) (omega arith), small (k + 3) l)
 
--- the bytes that are packed from the numbers of 16 values are those of their groups
-pub packed_is : (v ns : List ℕ) → length v ≡ 16 → Each1 (λ x. x < 64) v → ns ≡ numbers v → packed ns ≡ groups v
-packed_is v ns long h e =
-    let P : List ℕ → Type 0 = λ l. packed (numbers l) ≡ groups l in
-    ap packed e ∙ subst P (row_is v long) (packed_row (λ k. get_or v k 0) (λ k. below_at v k h))
+  -- the number of four bytes has 32 bits
+  wide : (k : ℕ) → group_number (f k) (f (k + 1)) (f (k + 2)) (f (k + 3)) < 4294967296
+  wide k = omega (arith, bytes k, bytes (k + 1), bytes (k + 2), bytes (k + 3))
+
+  -- the bytes of the numbers of a row
+  e : (j i : ℕ) (a : i < 4) (b : 4 * j + i < 16)
+      → get_or (digits_l 256 16 (number_l 4294967296 (numbers (row f)))) (4 * j + i) 0
+      ≡ get_or (numbers (row f)) j 0 / 256 ^ i % 256
+  e j i a b = get_or_narrower 4294967296 4 256 16 (numbers (row f)) j i refl (wide 0, (wide 4, (wide 8, (wide 12, tt)))) a b
+
+  -- if the first 4 * m of 16 bytes, written out, are below 64, the bytes of their groups are the first that are packed
+  packed_row : (m : ℕ) → m ≤ 4 → ((k : ℕ) → k < 4 * m → f k < 64)
+      → take (3 * m) (packed (numbers (row f))) ≡ groups (take (4 * m) (row f))
+  unfolding groups
+  packed_row zero few small = refl
+  packed_row (suc zero) few small =
+      group_same _ (narrow small 0 (lit< tt)) (e 0 2 (lit< tt) (lit< tt)) (e 0 1 (lit< tt) (lit< tt))
+      (e 0 0 (lit< tt) (lit< tt)) refl
+  packed_row (suc (suc zero)) few small =
+      group_same _ (narrow small 0 (lit< tt)) (e 0 2 (lit< tt) (lit< tt)) (e 0 1 (lit< tt) (lit< tt))
+      (e 0 0 (lit< tt) (lit< tt)) (group_same _ (narrow small 4 (lit< tt)) (e 1 2 (lit< tt) (lit< tt)) (e 1 1 (lit< tt) (lit< tt))
+      (e 1 0 (lit< tt) (lit< tt)) refl)
+  packed_row (suc (suc (suc zero))) few small =
+      group_same _ (narrow small 0 (lit< tt)) (e 0 2 (lit< tt) (lit< tt)) (e 0 1 (lit< tt) (lit< tt))
+      (e 0 0 (lit< tt) (lit< tt)) (group_same _ (narrow small 4 (lit< tt)) (e 1 2 (lit< tt) (lit< tt)) (e 1 1 (lit< tt) (lit< tt))
+      (e 1 0 (lit< tt) (lit< tt)) (group_same _ (narrow small 8 (lit< tt)) (e 2 2 (lit< tt) (lit< tt)) (e 2 1 (lit< tt) (lit< tt))
+      (e 2 0 (lit< tt) (lit< tt)) refl))
+  packed_row (suc (suc (suc (suc zero)))) few small =
+      group_same _ (narrow small 0 (lit< tt)) (e 0 2 (lit< tt) (lit< tt)) (e 0 1 (lit< tt) (lit< tt))
+      (e 0 0 (lit< tt) (lit< tt)) (group_same _ (narrow small 4 (lit< tt)) (e 1 2 (lit< tt) (lit< tt)) (e 1 1 (lit< tt) (lit< tt))
+      (e 1 0 (lit< tt) (lit< tt)) (group_same _ (narrow small 8 (lit< tt)) (e 2 2 (lit< tt) (lit< tt)) (e 2 1 (lit< tt) (lit< tt))
+      (e 2 0 (lit< tt) (lit< tt)) (group_same _ (narrow small 12 (lit< tt)) (e 3 2 (lit< tt) (lit< tt)) (e 3 1 (lit< tt) (lit< tt))
+      (e 3 0 (lit< tt) (lit< tt)) refl)))
+  packed_row (suc (suc (suc (suc (suc m))))) few small = absurd (omega arith)
+
+-- if the first 4 * m of 16 items of bytes are symbols, the bytes packed from their numbers begin with those of the symbols
+pub packed_is : (s vs ns : List ℕ) → length s ≡ 16 → Each1 (Fits w8) s → vs ≡ map value_of s → ns ≡ numbers vs
+    → DecodesFront s (packed ns)
+packed_is s vs ns long fits p q m few all =
+    let f = λ (k : ℕ). get_or (map value_of s) k 0 in
+    let front = front_values (take (4 * m) s) (each_take (4 * m) s fits) all in
+    let row_of : row f ≡ map value_of s = row_is (map value_of s) (length-map s value_of ∙ long) in
+    let small : (k : ℕ) → k < 4 * m → f k < 64 = λ k l.
+    omega (
+      arith,
+      below_at (map value_of (take (4 * m) s)) k front.1,
+      ap (λ v. get_or v k 0) (take-map value_of (4 * m) s),
+      get_or-take (4 * m) (map value_of s) k 0 l,
+    ) in
+    cc (packed_row f (value_below s) m few small, row_of, p, q, take-map value_of (4 * m) s, front.0)
 
 -- Blocks of four rows.
 
@@ -351,29 +415,50 @@ groups_of_rows : (w x y z : List ℕ) → length w ≡ 16 → length x ≡ 16 �
     → groups (w ++ (x ++ (y ++ z))) ≡ groups w ++ (groups x ++ (groups y ++ groups z))
 groups_of_rows w x y z p q r = grind (arith, groups_whole)
 
--- the bytes of the groups of a block of 64 values are those of the groups of its four rows, joined
-values_of_rows : (text : List ℕ) → 64 ≤ length text → groups (map value_of (take 64 text))
-    ≡ groups (map value_of (take 16 (drop 0 text))) ++ (groups (map value_of (take 16 (drop 16 text))) ++ (groups
-    (map value_of (take 16 (drop 32 text))) ++ groups (map value_of (take 16 (drop 48 text)))))
-values_of_rows text long =
-    let row = λ (at : ℕ). take 16 (drop at text) in
-    let size = λ (at : ℕ) (l : at + 16 ≤ length text). length-map (row at) value_of ∙ row_length text at l in
-    let all = groups_of_rows (map value_of (row 0)) (map value_of (row 16)) (map value_of (row 32))
-    (map value_of (row 48)) (size 0 (omega arith)) (size 16 (omega arith)) (size 32 (omega arith)) in
-    rw (split_block text, map-append, map-append, map-append) all
-
 -- rows that were put one after another
 pub put_three : (b1 b2 b3 x y z : List ℕ) → take 16 b1 ≡ x → take (16 + 16) b2 ≡ take 16 b1 ++ y
     → take (32 + 16) b3 ≡ take 32 b2 ++ z → length b3 ≡ 48 → b3 ≡ (x ++ y) ++ z
 put_three b1 b2 b3 x y z p q r long = sym (take_all 48 b3 (omega arith)) ∙ r ∙ ap (λ l. l ++ z) (q ∙ ap (λ l. l ++ y) p)
 
--- if the first 12 bytes of four rows are those of their groups, joined they are those of all 16 groups
-pub decoded_block : (text a b c d r0 r1 r2 r3 bytes : List ℕ) → 64 ≤ length text → length a ≡ 16 → length b ≡ 16
-    → length c ≡ 16 → length d ≡ 16
+-- a row of symbols is decoded whole
+whole_row : (r a : List ℕ) → length r ≡ 16 → list_all is_symbol r ≡ true → DecodesFront r a
+    → take 12 a ≡ groups (map symbol_value r)
+whole_row r a long all p =
+    let same = take_all 16 r (omega (arith, long)) in
+    cc (p 4 (omega arith) (ap (list_all is_symbol) same ∙ all), same)
+
+-- four rows of symbols are decoded one after another
+decoded_rows : (w x y z a b c d : List ℕ) → length w ≡ 16 → length x ≡ 16 → length y ≡ 16 → length z ≡ 16
+    → list_all is_symbol (w ++ (x ++ (y ++ z))) ≡ true → DecodesFront w a → DecodesFront x b → DecodesFront y c
+    → DecodesFront z d
+    → take 12 a ++ (take 12 b ++ (take 12 c ++ take 12 d)) ≡ groups (map symbol_value (w ++ (x ++ (y ++ z))))
+decoded_rows w x y z a b c d lw lx ly lz all p q r s =
+    let f = and_parts (list_all is_symbol w) (list_all is_symbol (x ++ (y ++ z)))
+    (sym (list_all-append is_symbol w (x ++ (y ++ z))) ∙ all) in
+    let g = and_parts (list_all is_symbol x) (list_all is_symbol (y ++ z)) (sym (list_all-append is_symbol x (y ++ z)) ∙ f.1) in
+    let h = and_parts (list_all is_symbol y) (list_all is_symbol z) (sym (list_all-append is_symbol y z) ∙ g.1) in
+    cc (
+      whole_row w a lw f.0 p,
+      whole_row x b lx g.0 q,
+      whole_row y c ly h.0 r,
+      whole_row z d lz h.1 s,
+      map-append symbol_value w (x ++ (y ++ z)),
+      map-append symbol_value x (y ++ z),
+      map-append symbol_value y z,
+      groups_of_rows (map symbol_value w) (map symbol_value x) (map symbol_value y) (map symbol_value z)
+          (length-map w symbol_value ∙ lw) (length-map x symbol_value ∙ lx) (length-map y symbol_value ∙ ly),
+    )
+
+-- if the groups of four rows of symbols are decoded, their bytes joined are those of all 16 groups
+pub decoded_block : (text a b c d r0 r1 r2 r3 bytes : List ℕ) → 64 ≤ length text → list_all is_symbol (take 64 text) ≡ true
+    → length a ≡ 16 → length b ≡ 16 → length c ≡ 16 → length d ≡ 16
     → r0 ≡ take 16 (drop 0 text) → r1 ≡ take 16 (drop 16 text) → r2 ≡ take 16 (drop 32 text)
     → r3 ≡ take 16 (drop 48 text)
-    → take 12 a ≡ groups (map value_of r0) → take 12 b ≡ groups (map value_of r1) → take 12 c ≡ groups (map value_of r2)
-    → take 12 d ≡ groups (map value_of r3)
-    → bytes ≡ shuffled a b c d → bytes ≡ groups (map value_of (take 64 text))
-decoded_block text a b c d r0 r1 r2 r3 bytes long la lb lc ld e0 e1 e2 e3 p q r s e =
-    grind (arith, shuffled_is, values_of_rows)
+    → DecodesFront r0 a → DecodesFront r1 b → DecodesFront r2 c → DecodesFront r3 d
+    → bytes ≡ shuffled a b c d → bytes ≡ groups (map symbol_value (take 64 text))
+decoded_block text a b c d r0 r1 r2 r3 bytes long all la lb lc ld e0 e1 e2 e3 p q r s e =
+    let size = λ (at : ℕ) (l : at + 16 ≤ length text). row_length text at l in
+    let is : take 64 text ≡ r0 ++ (r1 ++ (r2 ++ r3)) = cc (split_block text, e0, e1, e2, e3) in
+    e ∙ shuffled_is a b c d la lb lc ld ∙ rw is (decoded_rows r0 r1 r2 r3 a b c d
+    (ap length e0 ∙ size 0 (omega arith)) (ap length e1 ∙ size 16 (omega arith)) (ap length e2 ∙ size 32 (omega arith))
+    (ap length e3 ∙ size 48 (omega arith)) (sym (ap (list_all is_symbol) is) ∙ all) p q r s)

@@ -1,6 +1,7 @@
 -- What the vector code computes from one byte, and from a row of values.
-use Rattle.std.specs.Prelude.{[], if◌then◌else◌, ◌%◌, ◌+◌, ◌/◌, ◌==◌, ◌∷◌, List, bit_and, slice_index, ℕ}
-use Rattle.data_url.specs.Base64.{group_number}
+use Rattle.std.specs.Prelude.{[], if◌then◌else◌, ◌%◌, ◌*◌, ◌+◌, ◌/◌, ◌==◌, ◌∷◌, ◌≡◌, ◌≤◌, IsTrue, List, bit_and}
+use Rattle.std.specs.{List.{list_all}, Prelude.{map, slice_index, take, ℕ}}
+use Rattle.data_url.specs.Base64.{group_number, groups, is_symbol, symbol_value}
 use Rattle.data_url.specs.declared.forgiving_base64.alphabet.TheConstants.{HIGH_HALVES, LOW_HALVES, OFFSETS}
 
 -- the lookup of a byte in the two tables, one for each half of the byte; 0 exactly for a symbol
@@ -11,11 +12,16 @@ mark_of b = bit_and (slice_index LOW_HALVES (bit_and b 15)) (slice_index HIGH_HA
 abbrev pub offset_row : ℕ → ℕ
 offset_row b = (b / 16 + (if b == 47 then 255 else 0)) % 256
 
--- the value of a symbol; for any other byte, some number below 64
+-- the value of a symbol; for any other byte, some byte
 abbrev pub value_of : ℕ → ℕ
-value_of b = bit_and ((b + slice_index OFFSETS (offset_row b)) % 256) 63
+value_of b = (b + slice_index OFFSETS (offset_row b)) % 256
 
 -- the 24-bit number of each complete group of four values
 abbrev pub numbers : List ℕ → List ℕ
 numbers (p ∷ q ∷ r ∷ s ∷ rest) = group_number p q r s ∷ numbers rest
 numbers vs = []
+
+-- the groups of symbols that a row begins with are decoded at the front of the bytes
+abbrev pub DecodesFront : List ℕ → List ℕ → Type 0
+DecodesFront row bytes = (m : ℕ) → m ≤ 4 → IsTrue (list_all is_symbol (take (4 * m) row))
+    → take (3 * m) bytes ≡ groups (map symbol_value (take (4 * m) row))

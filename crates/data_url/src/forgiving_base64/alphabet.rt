@@ -1,11 +1,10 @@
 //! The alphabet of base64 (RFC 4648, section 4): which bytes are symbols, and the bytes of their groups, byte by byte and
 //! in rows of sixteen bytes.
 
-ghost use Rattle.std.specs.Prelude.{◌≡◌, ◌<◌, IsTrue, length, map, take};
-ghost use Rattle.std.specs.Simd.Lanes.{Each1};
+ghost use Rattle.std.specs.Prelude.{◌≡◌, IsTrue, length, map};
 ghost use Rattle.std.specs.List.{list_all};
-ghost use Rattle.data_url.specs.Base64.{group_bytes, group_number, groups, is_symbol, symbol_value};
-ghost use Rattle.data_url.specs.Steps.Lanes.{mark_of, numbers, value_of};
+ghost use Rattle.data_url.specs.Base64.{group_bytes, group_number, is_symbol, symbol_value};
+ghost use Rattle.data_url.specs.Steps.Lanes.{DecodesFront, mark_of, numbers, value_of};
 
 use std::simd::prelude::*;
 
@@ -35,7 +34,7 @@ const LOW_HALVES: [u8; 16] = [
 /// Has, for each high half of a byte, the bit of its row.
 const HIGH_HALVES: [u8; 16] = [16, 16, 1, 2, 4, 8, 4, 8, 16, 16, 16, 16, 16, 16, 16, 16];
 
-/// Has, for each high half of a symbol (1 for '/'), a number: the symbol plus it is the value, up to a multiple of 64.
+/// Has, for each high half of a symbol (1 for '/'), a number: the symbol plus it is the value, modulo 256.
 const OFFSETS: [u8; 16] = [0, 16, 19, 4, 191, 191, 185, 185, 0, 0, 0, 0, 0, 0, 0, 0];
 
 /// The weights of the first two values of a group, in half a number.
@@ -95,13 +94,12 @@ fn values_of(bytes: u8x16) -> u8x16
 {
     let is_slash = bytes.simd_eq(u8x16::splat(b'/'));
     let rows = (bytes >> u8x16::splat(4)) + is_slash.select(u8x16::splat(255), u8x16::splat(0));
-    (bytes + u8x16::from_array(OFFSETS).swizzle_dyn(rows)) & u8x16::splat(63)
+    bytes + u8x16::from_array(OFFSETS).swizzle_dyn(rows)
 }
 
 /// The number of each group of four values.
 #[inline(always)]
 fn numbers_of(values: u8x16) -> u32x4
-    requires { Each1 (λ v. v < 64) values }
     ensures { result ≡ numbers values }
 {
     let upper = values.dot4(u8x16::from_array(UPPER_WEIGHTS));
@@ -109,11 +107,11 @@ fn numbers_of(values: u8x16) -> u32x4
     (upper << u32x4::splat(12)) + lower
 }
 
-/// The bytes of a row's four groups, and four more bytes without meaning.
+/// The bytes of the groups of symbols that a row begins with, and then bytes without meaning.
 #[inline(always)]
 pub(crate) fn decode_row(bytes: u8x16) -> u8x16
     ensures len { length result ≡ 16 }
-    ensures bytes { take 12 result ≡ groups (map value_of bytes) }
+    ensures bytes { DecodesFront bytes result }
 {
     numbers_of(values_of(bytes))
         .to_le_bytes()

@@ -3,8 +3,7 @@
 ghost use Rattle.std.specs.Prelude.{◌≡◌, ◌*◌, ◌+◌, IsTrue, ◌<◌, ◌≤◌, ◌++◌, drop, length, map, not, take};
 ghost use Rattle.std.specs.List.{list_all, prefix_len};
 ghost use Rattle.std.specs.Simd.Lanes.{mask_l};
-ghost use Rattle.data_url.specs.Base64.{groups, is_symbol};
-ghost use Rattle.data_url.specs.Steps.Lanes.{value_of};
+ghost use Rattle.data_url.specs.Base64.{groups, is_symbol, symbol_value};
 
 use super::alphabet::{decode_row, marks_of};
 use std::simd::prelude::*;
@@ -62,11 +61,12 @@ pub(crate) fn put(bytes: &mut [u8], at: usize, row: u8x16)
     row.copy_to_slice(&mut bytes[at..]);
 }
 
-/// The bytes of the sixteen groups of the first 64 bytes, read as symbols.
+/// The bytes of the sixteen groups of the first 64 symbols.
 #[inline(always)]
 pub(crate) fn decode(text: &[u8]) -> [u8; 48]
-    requires { 64 ≤ length text.now }
-    ensures { result ≡ groups (map value_of (take 64 text.now)) }
+    requires long { 64 ≤ length text.now }
+    requires symbols { IsTrue (list_all is_symbol (take 64 text.now)) }
+    ensures { result ≡ groups (map symbol_value (take 64 text.now)) }
 {
     let first = decode_row(row(text, 0));
     let second = decode_row(row(text, 16));

@@ -10,4 +10,4 @@ pub dot4-lower : goal.dot4-lower
 dot4-lower c = (dot4_Fits c.args.values LOWER_WEIGHTS c.fits-values.1 tt, tt)
 
 pub returns : goal.returns
-returns c = numbers_is c.args.values c.fits-values.0 c.requires
+returns c = numbers_is c.args.values c.fits-values.0 c.fits-values.1

@@ -1,5 +1,5 @@
 use Rattle.std.{proofs.Common.{refl, sym, map-id}, proofs.Math.Dec.{ltb}, proofs.lemmas.Bool.{agree_below_at, ltb-true}}
-use Rattle.std.proofs.Common.{◌≡◌, ◌+◌, ◌/◌, ◌%◌, ◌^◌, ℕ, List, map, ◌<◌, bit_and, cond, eqb, get_or, true, ◌∙◌, w8}
+use Rattle.std.proofs.Common.{◌≡◌, ◌+◌, ◌/◌, ◌%◌, ◌^◌, ℕ, List, map, ◌<◌, cond, eqb, get_or, true, ◌∙◌, w8}
 use Rattle.std.proofs.lemmas.Simd.{splat_is_map, tops_compared, zip2_splat}
 use Rattle.data_url.specs.{Steps.Lanes.{offset_row}, declared.forgiving_base64.alphabet.TheConstants.{OFFSETS}}
 use Rattle.data_url.proofs.forgiving_base64.Vectors.{chosen, joined, looked_up, places_ok}
@@ -29,11 +29,9 @@ pub returns : goal.returns
 returns c =
     let v = c.args.bytes in
     let long = c.fits-bytes.0 in
-    joined bit_and (λ x. (x + get_or OFFSETS (offset_row x) 0) % 256) (λ x. 63) v
-    (joined (λ a b. (a + b) % 256) (λ x. x) (λ x. get_or OFFSETS (offset_row x) 0) v (sym (map-id v))
+    joined (λ a b. (a + b) % 256) (λ x. x) (λ x. get_or OFFSETS (offset_row x) 0) v (sym (map-id v))
     (looked_up OFFSETS offset_row v _ long c.fits-bytes.1
     (rows v (zip2_splat (λ a b. a / 2 ^ b) v 16 4 long)
     (chosen (λ x. eqb x 47) (λ x. 255) (λ x. 0) v (tops_compared w8 eqb v _ ∙ zip2_splat eqb v 16 47 long)
     (splat_is_map v 16 255 long) (splat_is_map v 16 0 long)))
-    row_small))
-    (splat_is_map v 16 63 long)
+    row_small)

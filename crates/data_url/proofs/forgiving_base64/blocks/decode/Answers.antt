@@ -5,7 +5,7 @@ use Rattle.data_url.proofs.forgiving_base64.blocks.decode.Goals as goal
 pub returns : goal.returns
 returns c =
     decoded_block c.args.text.now c.decode_row-first.result c.decode_row-second.result c.decode_row-third.result
-    c.decode_row-fourth.result _ _ _ _ c.put-3.new.bytes c.requires
+    c.decode_row-fourth.result _ _ _ _ c.put-3.new.bytes c.requires.long c.requires.symbols
     c.decode_row-first.ensures.len c.decode_row-second.ensures.len c.decode_row-third.ensures.len
     c.decode_row-fourth.ensures.len
     c.row.ensures c.row-2.ensures c.row-3.ensures c.row-4.ensures

@@ -15,7 +15,7 @@ returns-in_err-write-clause-fed g c =
     let between = c.is_between_groups.ensures c.loop-self-test.true in
     rw (p.1, p.2) (feeds_stop step c.args.text.now (c.loop-self.at + 64)
     (reads_refused step c.decode.result [] (omega arith) (rw (append-nil c.decode.result) (block_reads step
-    c.args.text.now c.loop-self.at c.type_inv.text between (omega arith)
+    c.args.text.now c.loop-self.at between (omega arith)
     (sym c.if-is_whole.true ∙ c.is_whole.ensures) c.decode.ensures i.reads)) c.in_err-write.ensures.called))
 
 pub loop-self-preserved : goal.loop-self-preserved
@@ -28,7 +28,7 @@ loop-self-preserved g c =
       callable = c.in_ok-write.ensures.callable;
       within = omega arith;
       reads = reads_called step c.decode.result [] (omega arith) (rw (append-nil c.decode.result) (block_reads step
-          c.args.text.now c.loop-self.at c.type_inv.text between (omega arith)
+          c.args.text.now c.loop-self.at between (omega arith)
           (sym c.if-is_whole.true ∙ c.is_whole.ensures) c.decode.ensures i.reads)) w;
     }
 

@@ -1,7 +1,7 @@
 use Rattle.std.proofs.Common.{◌*◌, ◌≤◌, ◌+◌, ◌≡◌, ap, arith, drop, length, length-drop, refl, sym, take, ◌∙◌, take-take}
 use Rattle.std.{proofs.lemmas.List.{take_rest}, specs.List.{list_all}}
 use Rattle.data_url.specs.Base64.{is_symbol}
-use Rattle.data_url.proofs.forgiving_base64.Groups.{leaves_all, leaves_fits, leaves_read, leaves_then, put_keeps}
+use Rattle.data_url.proofs.forgiving_base64.Groups.{leaves_all, leaves_read, leaves_then, put_keeps}
 use Rattle.data_url.proofs.forgiving_base64.Groups.{row_fills, spaces_front}
 use Rattle.data_url.proofs.forgiving_base64.held.HeldGroups.fill_rows.Goals as goal
 
@@ -17,7 +17,7 @@ loop-rest-preserved-then-are_symbols c =
       none = λ e. absurd (omega (arith, ap length (take_rest rest 16), length-drop 16 rest, (leaves_read i.leaves).0));
       leaves = leaves_then 16 i.leaves (row_fills c.loop-rest.self.bytes _ _ _ rest c.loop-rest.len 4 0
           (omega (arith, c.loop-rest.self.sized)) c.put.ensures c.decode_row.ensures.bytes c.row-row.ensures
-          (omega arith) (omega arith) (omega arith) (leaves_fits i.leaves c.type_inv.text)
+          (omega arith) (omega arith)
           (cc (c.row-row.ensures, c.are_symbols.ensures, c.if-are_symbols.true)) refl);
     }
 
@@ -48,7 +48,7 @@ loop-rest-preserved c =
       ));
       leaves = leaves_then (4 * m + k) i.leaves (row_fills c.loop-rest.self.bytes _ _ _ rest c.loop-rest.len m k
           (omega (arith, c.loop-rest.self.sized)) c.put.ensures c.decode_row.ensures.bytes c.row-row.ensures ahead.few
-          (omega arith) few (leaves_fits i.leaves c.type_inv.text) (sym (ap (list_all is_symbol) front) ∙ ahead.symbols)
+          few (sym (ap (list_all is_symbol) front) ∙ ahead.symbols)
           (rw (c.spaces_len.ensures.prefix, take_rest rest (4 * m)) (spaces_front (drop (4 * m) rest))));
     }
 
