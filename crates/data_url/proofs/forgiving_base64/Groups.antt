@@ -86,19 +86,19 @@ fill_row held block bytes m k within all spaces is =
       held_are = cc (is, symbols);
     }
 
--- the groups that a text begins with, and white space after them, if its first row was decoded and put after g groups
-pub row_fills : (old new decoded row text : List ℕ) (g m k : ℕ) → 3 * g + 16 ≤ length old
-    → take (3 * g + 16) new ≡ take (3 * g) old ++ decoded → DecodesFront row decoded → row ≡ take 16 text → m ≤ 4
+-- the groups that a text begins with, and white space after them, if its first row was decoded and put after n bytes
+pub row_fills : (old new decoded row text : List ℕ) (n m k : ℕ) → n + 16 ≤ length old
+    → take (n + 16) new ≡ take n old ++ decoded → DecodesFront row decoded → row ≡ take 16 text → m ≤ 4
     → 4 * m + k ≤ length text → list_all is_symbol (take (4 * m) text) ≡ true
     → list_all is_ascii_whitespace (take k (drop (4 * m) text)) ≡ true
-    → Fills (take (3 * g) old) (take (4 * m + k) text) (take (3 * (g + m)) new)
-row_fills old new decoded row text g m k room put decodes is few within all spaces =
-    let held = take (3 * g) old in
-    let size : 3 * (g + m) ≡ length held + 3 * m = omega (arith, length-take-le (3 * g) old (omega arith)) in
+    → Fills (take n old) (take (4 * m + k) text) (take (n + 3 * m) new)
+row_fills old new decoded row text n m k room put decodes is few within all spaces =
+    let held = take n old in
+    let size : n + 3 * m ≡ length held + 3 * m = omega (arith, length-take-le n old (omega arith)) in
     let front : take (4 * m) row ≡ take (4 * m) text = ap (take (4 * m)) is ∙ take-take (4 * m) 16 text (omega arith) in
     let bytes = decodes m few (ap (list_all is_symbol) front ∙ all) in
-    let e : take (3 * (g + m)) new ≡ held ++ take (3 * m) decoded = cc (
-      take-take (3 * (g + m)) (3 * g + 16) new (omega arith),
+    let e : take (n + 3 * m) new ≡ held ++ take (3 * m) decoded = cc (
+      take-take (n + 3 * m) (n + 16) new (omega arith),
       take-append-add held decoded (3 * m),
     ) in
     rw e (fill_row held text (take (3 * m) decoded) m k within all spaces (cc (bytes, front)))

@@ -3,7 +3,7 @@ use Rattle.std.proofs.Common.{Option, None, Some, is_some, Result, Ok, Err, refl
 use Rattle.std.proofs.Common.{append_assoc, drop-drop, length-append, length-take, take-append-drop, append-nil}
 use Rattle.std.proofs.Common.{false, cond, min, ◌||◌, List, [], ◌∷◌, ◌++◌, length, map, drop, get_or, take, take-add}
 use Rattle.std.{proofs.Common.{get_or-drop, length-drop, MatchResult}, specs.Option.{option_or}}
-use Rattle.std.proofs.Common.{◌*◌, ◌≡◌, ℕ, suc, zero, ◌+◌, ◌-◌, ◌/◌, ◌<◌, ◌≤◌, length-take-le, Bool, true}
+use Rattle.std.proofs.Common.{◌≡◌, ℕ, suc, zero, ◌+◌, ◌-◌, ◌/◌, ◌<◌, ◌≤◌, length-take-le, Bool, true}
 use Rattle.std.{proofs.lemmas.Bool.{and_parts, true≢false}, specs.List.{filter, list_all}, specs.Result.{result_err}}
 use Rattle.std.proofs.lemmas.List.{nil_from_length, take_more, take_rest}
 use Rattle.data_url.specs.Base64.{Kind, after_groups, first_fault, groups, is_symbol, left_padding, left_symbols}
@@ -107,8 +107,8 @@ unfolding groups
 fills_none text zero e f = grind (arith, append-nil)
 fills_none text (suc n) e f = absurd (omega arith)
 
--- there are three bytes for each group that is held
-pub held_len : (p : HeldGroups) → length (held_bytes p) ≡ 3 * p.len
+-- `len` is the number of bytes that are held
+pub held_len : (p : HeldGroups) → length (held_bytes p) ≡ p.len
 held_len p = grind (arith, length-take-le)
 
 -- Calls of the closure

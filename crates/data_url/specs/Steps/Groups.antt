@@ -1,7 +1,7 @@
 -- The complete groups at the start of a text, and the bytes of groups that are held.
 use Rattle.std.specs.Char.{is_ascii_whitespace}
 use Rattle.std.specs.List.{filter, list_all}
-use Rattle.std.specs.Prelude.{◌%◌, ◌*◌, ◌++◌, ◌||◌, ◌≡◌, Bool, IsTrue, List, length, map, take, ℕ}
+use Rattle.std.specs.Prelude.{◌%◌, ◌++◌, ◌||◌, ◌≡◌, Bool, IsTrue, List, length, map, take, ℕ}
 use Rattle.data_url.specs.Base64.{groups, is_symbol, symbol_value}
 use Rattle.data_url.specs.declared.forgiving_base64.held.HeldGroups.{HeldGroups}
 
@@ -21,4 +21,4 @@ pub record Fills (held text held' : List ℕ) : Type 0 where
 
 -- the bytes of the groups that are held
 abbrev pub held_bytes : HeldGroups → List ℕ
-held_bytes p = take (3 * p.len) p.bytes
+held_bytes p = take p.len p.bytes

@@ -129,7 +129,7 @@ where
         groups: &mut HeldGroups,
     ) -> Result<usize, InvalidBase64Details>
         requires some { 1 ≤ length text.now }
-        requires room { groups.old.len < 64 }
+        requires room { groups.old.len < 192 }
         requires going { (state_of self.old).failed ≡ false }
         ensures { MatchResult result
             (λ taken. Gains (state_of self.old) (held_bytes groups.old) text.now taken
@@ -166,7 +166,7 @@ where
         groups: &mut HeldGroups,
     ) -> Result<usize, InvalidBase64Details>
         requires some { 1 ≤ length text.now }
-        requires room { groups.old.len < 64 }
+        requires room { groups.old.len < 192 }
         requires going { (state_of self.old).failed ≡ false }
         ensures { MatchResult result
             (λ taken. Gains (state_of self.old) (held_bytes groups.old) text.now taken
@@ -240,7 +240,7 @@ where
                 }
             }
             if groups.len >= FULL {
-                self.flush(&groups.as_slice()[..3 * FULL])?;
+                self.flush(&groups.as_slice()[..FULL])?;
                 groups.drop_first();
             }
         }

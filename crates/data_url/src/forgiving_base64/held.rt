@@ -1,6 +1,6 @@
 //! The bytes of whole groups of a text of base64 (RFC 4648, section 4) that the closure was not yet called with.
 
-ghost use Rattle.std.specs.Prelude.{◌≡◌, ◌+◌, ◌≤◌, ◌<◌, ◌++◌, [], drop, length, take};
+ghost use Rattle.std.specs.Prelude.{◌≡◌, ◌%◌, ◌+◌, ◌≤◌, ◌<◌, ◌++◌, [], drop, length, take};
 ghost use Rattle.std.specs.Char.{is_ascii_whitespace};
 ghost use Rattle.std.specs.List.{list_all, prefix_len};
 ghost use Rattle.data_url.specs.Base64.{is_symbol};
@@ -8,16 +8,17 @@ ghost use Rattle.data_url.specs.Base64.{is_symbol};
 use super::alphabet::{are_symbols, decode_row, group_of, is_symbol};
 use super::blocks::{groups_ahead, put, row};
 
-/// How many groups are held before the closure is called with their bytes. With a whole piece, 16 groups, lines of 76
-/// symbols take a fifth longer.
-pub(crate) const FULL: usize = 64;
+/// How many bytes of groups are held before the closure is called with them: those of 64 groups. With one piece, 16 groups,
+/// lines of 76 symbols take a fifth longer.
+pub(crate) const FULL: usize = 192;
 
 /// The bytes of up to 64 groups, and of up to three groups of the row that was added last.
 #[derive(Drop)]
 pub(crate) struct HeldGroups {
     bytes: [u8; 208],
     pub(crate) len: usize,
-    ghost within: { len < 68 },
+    ghost within: { len < 204 },
+    ghost whole: { len % 3 ≡ 0 },
     ghost sized: { length bytes ≡ 208 },
 }
 
@@ -52,37 +53,37 @@ impl HeldGroups {
     pub(crate) fn as_slice(&self) -> &[u8]
         ensures { result.now ≡ held_bytes self.now }
     {
-        &self.bytes[..3 * self.len]
+        &self.bytes[..self.len]
     }
 
     /// Removes the bytes of the first 64 groups.
     #[inline(always)]
     pub(crate) fn drop_first(&mut self)
-        requires { 64 ≤ self.old.len }
+        requires { 192 ≤ self.old.len }
         ensures bytes { held_bytes self.new ≡ drop 192 (held_bytes self.old) }
-        ensures len { self.new.len + 64 ≡ self.old.len }
+        ensures len { self.new.len + 192 ≡ self.old.len }
     {
-        self.bytes.copy_within(192..208, 0);
+        self.bytes.copy_within(FULL..208, 0);
         self.len -= FULL;
     }
 
     /// Adds the bytes of a group.
     #[inline(always)]
     pub(crate) fn push(&mut self, group: [u8; 3])
-        requires room { self.old.len < 64 }
+        requires room { self.old.len < 192 }
         ensures bytes { held_bytes self.new ≡ held_bytes self.old ++ group }
-        ensures len { self.new.len ≡ self.old.len + 1 }
+        ensures len { self.new.len ≡ self.old.len + 3 }
     {
-        let at = 3 * self.len;
-        self.bytes[at..at + 3].copy_from_slice(&group);
-        self.len += 1;
+        let end = self.len + group.len();
+        self.bytes[self.len..end].copy_from_slice(&group);
+        self.len = end;
     }
 
     /// Adds whole groups that a text begins with: those of rows of sixteen bytes, or one group. White space after the
     /// groups of a row is skipped. Returns how many bytes of the text these take.
     #[inline(always)]
     pub(crate) fn fill(&mut self, text: &[u8]) -> usize
-        requires room { self.old.len < 64 }
+        requires room { self.old.len < 192 }
         ensures none { result ≡ 0 → self.new.len ≡ self.old.len }
         ensures within { result ≤ length text.now }
         ensures fills { Fills (held_bytes self.old) (take result text.now) (held_bytes self.new) }
@@ -106,7 +107,7 @@ impl HeldGroups {
     /// of a row is skipped. Returns how many bytes of the text these take.
     #[inline(never)]
     fn fill_rows(&mut self, text: &[u8]) -> usize
-        requires room { self.old.len < 64 }
+        requires room { self.old.len < 192 }
         ensures none { result ≡ 0 → self.new.len ≡ self.old.len }
         ensures within { result ≤ length text.now }
         ensures fills { Fills (held_bytes self.old) (take result text.now) (held_bytes self.new) }
@@ -115,9 +116,9 @@ impl HeldGroups {
         let mut len = self.len;
         while rest.len() >= 16 && len < FULL {
             let row = row(rest, 0);
-            put(&mut self.bytes, 3 * len, decode_row(row));
+            put(&mut self.bytes, len, decode_row(row));
             if are_symbols(row) {
-                len += 4;
+                len += 12;
                 rest = &rest[16..];
             } else {
                 let ahead = groups_ahead(row);
@@ -125,7 +126,7 @@ impl HeldGroups {
                 if taken == 0 {
                     break;
                 }
-                len += ahead;
+                len += 3 * ahead;
                 rest = &rest[taken..];
             }
         }

@@ -7,7 +7,7 @@ abbrev pub invariant-loop-at : goal.invariant-loop-at
 invariant-loop-at g l = record {
   callable : always_mut g.F.FnMut (state_of l.self).closure;
   within : l.at ≤ length l.input;
-  few : l.groups.len < 64;
+  few : l.groups.len < 192;
   reads : Reads (CalledAt g.F.FnMut) (state_of l.fn.self) (take l.at l.input) (held_bytes l.groups) (state_of l.self);
 }
 

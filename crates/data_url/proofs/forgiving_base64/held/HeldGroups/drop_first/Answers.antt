@@ -1,4 +1,4 @@
-use Rattle.std.proofs.Common.{◌≡◌, ◌-◌, ◌*◌, ◌≤◌, arith, drop, length-drop, take-take}
+use Rattle.std.proofs.Common.{◌-◌, ◌≤◌, arith, drop, length-drop, take-take}
 use Rattle.std.proofs.lemmas.List.Edits.{take-paste}
 use Rattle.data_url.proofs.escapes.Reading.{drop_taken}
 use Rattle.data_url.proofs.forgiving_base64.held.HeldGroups.drop_first.Goals as goal
@@ -7,15 +7,13 @@ pub returns-clause-bytes : goal.returns-clause-bytes
 returns-clause-bytes c =
     let old = c.args.self.now in
     let new = c.copy_within.new.self in
-    let n = 3 * (old.len - 64) in
+    let n = old.len - 192 in
     let few : n ≤ 12 = omega (arith, old.within) in
-    let left : 3 * old.len - 192 ≡ n = omega arith in
     cc (
       take-take n 16 new (omega arith),
       take-take n 16 (drop 192 old.bytes) (omega arith),
       take-paste old.bytes 0 (drop 192 old.bytes) 16 (omega (arith, old.sized))
           (omega (arith, old.sized, length-drop 192 old.bytes)),
-      drop_taken 192 (3 * old.len) old.bytes,
-      left,
+      drop_taken 192 old.len old.bytes,
       c.copy_within.ensures.after,
     )

@@ -14,6 +14,7 @@ loop-rest-preserved-then-are_symbols c =
     let rest = c.loop-rest.rest.now in
     record {
       few = omega arith;
+      whole = omega arith;
       none = λ e. absurd (omega (arith, ap length (take_rest rest 16), length-drop 16 rest, (leaves_read i.leaves).0));
       leaves = leaves_then 16 i.leaves (row_fills c.loop-rest.self.bytes _ _ _ rest c.loop-rest.len 4 0
           (omega (arith, c.loop-rest.self.sized)) c.put.ensures c.decode_row.ensures.bytes c.row-row.ensures
@@ -39,6 +40,7 @@ loop-rest-preserved c =
     ) in
     record {
       few = omega (arith, ahead.few);
+      whole = omega arith;
       none = λ e. absurd (omega (
         arith,
         ap length (take_rest rest (4 * m + k)),
@@ -61,7 +63,7 @@ returns-clause-within c = omega (arith, (leaves_read c.loop-rest.invariant.leave
 pub returns-clause-fills : goal.returns-clause-fills
 returns-clause-fills c =
     let old = c.loop-rest.self.bytes in
-    let n = 3 * c.loop-rest.len in
+    let n = c.loop-rest.len in
     let same : take n c.loop-rest-test.self.1.0 ≡ take n old = elim c.loop-rest-test.branch [
       | goal.then-loop-rest-test+else-len-lt-FULL w ↦ grind arith
       | goal.else-loop-rest-test w ↦ grind arith

@@ -1,4 +1,4 @@
-use Rattle.std.proofs.Common.{◌≡◌, ◌*◌, ◌<◌, length, take}
+use Rattle.std.proofs.Common.{◌≡◌, ◌%◌, ◌<◌, length, take}
 use Rattle.data_url.specs.Steps.Groups.{held_bytes}
 use Rattle.data_url.proofs.forgiving_base64.Groups.{Leaves}
 use Rattle.data_url.proofs.forgiving_base64.held.HeldGroups.fill_rows.Given as goal
@@ -6,9 +6,10 @@ use Rattle.data_url.proofs.forgiving_base64.held.HeldGroups.fill_rows.Given as g
 -- the groups of the bytes before `rest` are held
 abbrev pub invariant-loop-rest : goal.invariant-loop-rest
 invariant-loop-rest l = record {
-  few : l.len < 68;
+  few : l.len < 204;
+  whole : l.len % 3 ≡ 0;
   none : length l.rest ≡ length l.text → l.len ≡ l.fn.self.len;
-  leaves : Leaves (held_bytes l.fn.self) l.text l.rest (take (3 * l.len) l.self.bytes);
+  leaves : Leaves (held_bytes l.fn.self) l.text l.rest (take l.len l.self.bytes);
 }
 
 abbrev pub decreases-loop-rest : goal.decreases-loop-rest
