@@ -3,9 +3,11 @@ use Rattle.std.proofs.Common.{append_assoc, MatchOption, MatchBool, MatchResult,
 use Rattle.std.proofs.Common.{◌∷◌, ◌++◌, length, map, min, replicate, None, Some, Result, Ok, Err, refl, ap, ap₂, sym}
 use Rattle.std.proofs.Common.{◌≡◌, ℕ, suc, zero, ◌+◌, ◌%◌, ◌≤◌, Bool, true, false, cond, eqb, get_or, take, List, []}
 use Rattle.std.proofs.Common.{◌≢◌, ◌⊎◌, inl, inr, ◌∙◌, subst, arith, length-append, length-take, drop, Option}
-use Rattle.std.{proofs.lemmas.Bool.{false≢true, true≢false}, specs.List.{filter, list_any}, specs.Result.{result_err}}
+use Rattle.std.proofs.{Common.{set, ◌<◌}, lemmas.List.Folds.{list_all-append}, lemmas.List.Sums.{AllPass-from_list_all}}
+use Rattle.std.{proofs.lemmas.Bool.{false≢true, true≢false}, specs.List.{filter, list_all, list_any}}
+use Rattle.std.specs.Result.{result_err}
 use Rattle.std.{proofs.lemmas.List.Elements.{filter-append}, specs.Char.{is_ascii_whitespace}, specs.Option.{option_or}}
-use Rattle.std.proofs.lemmas.List.{length-map, length-replicate, nil_from_length}
+use Rattle.std.proofs.lemmas.List.{get_or-take, length-map, length-replicate, nil_from_length, take_more_set}
 use Rattle.data_url.specs.Base64.{after_groups, decoded, complete_bytes, first_fault, group_bytes, group_number, groups}
 use Rattle.data_url.specs.Base64.{is_symbol, is_valid, kind_of, left_padding, left_symbols, left_text, rest_bytes}
 use Rattle.data_url.specs.{Base64.{symbol_value, values}, Mime.{Every}, Run.{IsRun, IsPrefix, joined_pieces, refusal}}
@@ -168,6 +170,18 @@ three_items [] n l e = absurd (omega arith)
 three_items (a ∷ []) n l e = absurd (omega arith)
 three_items (a ∷ b ∷ []) n l e = absurd (omega arith)
 three_items (a ∷ b ∷ c ∷ f ∷ t) n l e = absurd (omega arith)
+
+-- each of the symbols that are kept is a symbol
+pub kept_symbol : (s : List ℕ) (n i : ℕ) → i < n → n ≤ length s → list_all is_symbol (take n s) ≡ true
+    → is_symbol (get_or s i 0) ≡ true
+kept_symbol s n i l w a =
+    sym (ap is_symbol (get_or-take n s i 0 l))
+    ∙ AllPass-from_list_all is_symbol (take n s) a i 0 (omega (arith, length-take n s))
+
+-- so is each after one more is kept
+pub more_symbols : (s : List ℕ) (n c : ℕ) → n < length s → list_all is_symbol (take n s) ≡ true → is_symbol c ≡ true
+    → list_all is_symbol (take (n + 1) (set s n c)) ≡ true
+more_symbols s n c l a h = cc (take_more_set s n c l, list_all-append is_symbol (take n s) (c ∷ []))
 
 -- the byte of two symbols left over is the first byte of the group that they begin
 pub decoded_two : (s : List ℕ) (n p : ℕ) → n ≡ 2 → length s ≡ 3 → Every is_symbol (take n s)

@@ -1,5 +1,6 @@
 -- Printed records: `Display` and `PartialEq` of `Mime`, and that parsing a printed record returns the record.
-use Rattle.std.{proofs.Common.{Decides, IsTrue}, specs.List.{flat_map, AllZip, list_all}, specs.Str.{IsUtf8, chars}}
+use Rattle.std.{proofs.Common.{Decides, IsTrue}, specs.List.{flat_map, AllZip, list_all, prefix_len}}
+use Rattle.std.specs.Str.{IsUtf8, chars}
 use Rattle.std.proofs.Common.{String, string_bytes, map, encode_utf8, encode_utf8_all, refl, sym, subst, append_assoc}
 use Rattle.std.proofs.Common.{append-nil, drop-cons, drop_of_length-le, arith, ◌==◌, ◌||◌, ◌&&◌, not, Some, ap, ◌↔◌}
 use Rattle.std.proofs.Common.{◌≡◌, ℕ, ◌+◌, ◌<◌, ◌≤◌, Bool, true, false, List, [], ◌∷◌, ◌++◌, length, get_or, drop}
@@ -46,6 +47,16 @@ plain_chars (c ∷ cs) h = grind (arith, plain_chars cs h.1)
 pub plain_text : (v : List ℕ) → IsUtf8 v → Without is_escaped (chars v)
     → v ≡ encode_utf8_all (flat_map escaped_code_point (chars v))
 plain_text v u h = grind (arith, encodes-chars, encode_utf8_all, plain_chars)
+
+-- so it is if as many bytes as it has pass at its front
+pub plain_copy : (v bytes : List ℕ) (n : ℕ) → IsUtf8 v → bytes ≡ v → n ≡ prefix_len (λ c. not (is_escaped c)) bytes
+    → n ≡ length v → v ≡ encode_utf8_all (flat_map escaped_code_point (chars v))
+plain_copy v bytes n u e f g = plain_text v u (whole_passes _ unescaped_steady v bytes n u e f g)
+
+-- a token text is printed as it is
+pub token_value_text : (v : List ℕ) (b : Bool) → IsUtf8 v → b ≡ is_token_text (chars v) → b ≡ true
+    → v ≡ encode_utf8_all (printed_value (chars v))
+token_value_text v b u e h = grind (arith, encodes-chars)
 
 -- a value that is not a token text is printed as its escaped code points in quotes
 pub quoted_value_text : (v : List ℕ) (b : Bool) → b ≡ is_token_text (chars v) → b ≡ false → ((34 ∷ [])
@@ -137,12 +148,6 @@ module _ {W : Type 0} {took : W → List ℕ → W → Type 0} {f g : Formatter 
         → HasWrittenStyled took start whole g
     prints_ends l y p = has_written_styled_of_eq _ _ _ _ _ (grind (arith, append-nil, drop_of_length-le))
         (has_written_styled_append _ _ _ _ _ _ (x.wrote p) (y (x.wrote p).flush))
-
--- the lemmas for `push_value`
-pub ruleset values = (adds_same, encodes-chars)
-
--- the lemmas for `push_escaped`
-pub ruleset escapes = (adds_written, plain_text, whole_passes, unescaped_steady)
 
 -- the lemmas for `line.rt`
 pub ruleset lines = (adds_held, adds_after, adds_written, held_more)

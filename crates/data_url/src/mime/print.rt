@@ -30,7 +30,6 @@ pub(super) fn push_parameter<W: fmt::Write>(
 }
 
 /// Adds a value: as it is if it is not empty and has only token code points, and otherwise in quotes.
-#[tactic(auto, using(crate::proofs::mime::RoundTrips::values))]
 fn push_value<W: fmt::Write>(line: &mut Line, f: &mut fmt::Formatter<W>, value: &str) -> fmt::Result
     requires { IsHeld line.old }
     ensures added { AddsOnOk W.write_str_gives f.old line.old result
@@ -46,7 +45,6 @@ fn push_value<W: fmt::Write>(line: &mut Line, f: &mut fmt::Formatter<W>, value: 
 }
 
 /// Adds a text with a `\` before each `"` and each `\`.
-#[tactic(auto, using(crate::proofs::mime::RoundTrips::escapes))]
 fn push_escaped<W: fmt::Write>(
     line: &mut Line,
     f: &mut fmt::Formatter<W>,

@@ -1,5 +1,5 @@
 use Rattle.std.proofs.{Common.{arith}, lemmas.List.{take_more_set}}
-use Rattle.data_url.specs.declared.escapes.Piece.TheVariants.{Byte}
+use Rattle.data_url.specs.declared.escapes.Piece.TheVariants.{Byte, Slice}
 use Rattle.data_url.proofs.escapes.Walking.{over_next, takes_next}
 use Rattle.data_url.proofs.escapes.cursor.Cursor.next_bytes.Goals as goal
 
@@ -12,3 +12,8 @@ returns-in-Some-Byte-clause-gives c =
     let goes = rw c.in-Some-Byte.field-0-is at c.in-Some-Byte.ensures.goes in
     rw (take_more_set c.gather-len.new.room 0 c.in-Some-Byte.byte (omega arith))
     (takes_next (Byte c.in-Some-Byte.byte) c.gather-len.ensures.gathers (omega arith) goes)
+
+pub returns-in-Some-Slice-clause-gives : goal.returns-in-Some-Slice-clause-gives
+returns-in-Some-Slice-clause-gives c =
+    let goes = rw c.in-Some-Slice.field-0-is at c.in-Some-Slice.ensures.goes in
+    takes_next (Slice c.in-Some-Slice.slice) c.gather-len.ensures.gathers (omega arith) goes

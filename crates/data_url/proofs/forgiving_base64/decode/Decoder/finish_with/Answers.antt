@@ -1,8 +1,8 @@
-use Rattle.std.{proofs.Common.{ap, arith, inl, inr, length-take, sym, take, ◌∙◌}, specs.Fn.{CalledAt}}
+use Rattle.std.{proofs.Common.{ap, arith, inl, inr, length-take, rules, sym, take, ◌∙◌}, specs.Fn.{CalledAt}}
 use Rattle.data_url.specs.Decoder.{state_of}
 use Rattle.data_url.proofs.forgiving_base64.Padding.{every_list_all}
 use Rattle.data_url.proofs.forgiving_base64.Steps.{decoded_three, decoded_two, finishes_called, finishes_nothing}
-use Rattle.data_url.proofs.forgiving_base64.Steps.{finishes_refused, kind_left, valid_ends, valid_left}
+use Rattle.data_url.proofs.forgiving_base64.Steps.{kept_symbol, finishes_refused, kind_left, valid_ends, valid_left}
 use Rattle.data_url.proofs.forgiving_base64.decode.Decoder.finish_with.Goals as goal
 
 pub returns-clause-finished : goal.returns-clause-finished
@@ -41,3 +41,26 @@ returns-clause-finished g c =
           (finishes_nothing step d c.args.self.pending every (omega arith) (omega arith) fits)
       | goal.in-1 w ↦ grind (arith, every_list_all, length-take, valid_left, kind_left, finishes_refused)
     ]
+
+pub group_of-requires-clause-first : goal.group_of-requires-clause-first
+group_of-requires-clause-first g c =
+    let d = c.args.self in kept_symbol d.symbols d.pending 0 (omega arith) (omega arith) d.pending_symbols
+
+pub group_of-requires-clause-second : goal.group_of-requires-clause-second
+group_of-requires-clause-second g c =
+    let d = c.args.self in kept_symbol d.symbols d.pending 1 (omega arith) (omega arith) d.pending_symbols
+
+pub group_of-requires-in-3-clause-first : goal.group_of-requires-in-3-clause-first
+group_of-requires-in-3-clause-first g c =
+    let d = c.args.self in kept_symbol d.symbols d.pending 0 (omega arith) (omega arith) d.pending_symbols
+
+pub group_of-requires-in-3-clause-second : goal.group_of-requires-in-3-clause-second
+group_of-requires-in-3-clause-second g c =
+    let d = c.args.self in kept_symbol d.symbols d.pending 1 (omega arith) (omega arith) d.pending_symbols
+
+pub group_of-requires-in-3-clause-third : goal.group_of-requires-in-3-clause-third
+group_of-requires-in-3-clause-third g c =
+    let d = c.args.self in kept_symbol d.symbols d.pending 2 (omega arith) (omega arith) d.pending_symbols
+
+pub returns-clause-callable : goal.returns-clause-callable
+returns-clause-callable g c = search rules

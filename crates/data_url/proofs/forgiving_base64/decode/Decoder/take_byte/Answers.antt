@@ -3,7 +3,7 @@ use Rattle.std.proofs.lemmas.Bool.{ne_eqb}
 use Rattle.data_url.specs.Decoder.{state_of}
 use Rattle.data_url.proofs.{forgiving_base64.Holding.{gains_none, gains_one}, forgiving_base64.Vectors.{space_is}}
 use Rattle.data_url.proofs.forgiving_base64.Steps.{adds_group, adds_kept, adds_pad, adds_space, refuses_after}
-use Rattle.data_url.proofs.forgiving_base64.Steps.{refuses_other, sound, three_items}
+use Rattle.data_url.proofs.forgiving_base64.Steps.{refuses_other, sound, three_items, kept_symbol, more_symbols}
 use Rattle.data_url.proofs.forgiving_base64.decode.Decoder.take_byte.Goals as goal
 
 pub returns-then-byte-eq61 : goal.returns-then-byte-eq61
@@ -53,3 +53,21 @@ returns-else-self-lt3 g c =
     (three_items d.symbols d.pending (omega arith) (omega (arith, d.few_pending)))
     (omega arith) (sym c.is_symbol.ensures ∙ c.if-not-is_symbol.false) c.group_of.ensures refl refl (omega arith)
     c.requires.going) c.push.ensures.bytes
+
+pub invariant_of-self-then-self-lt3 : goal.invariant_of-self-then-self-lt3
+invariant_of-self-then-self-lt3 g c =
+    let d = c.args.self.now in record {
+      few_pending = omega arith;
+      pending_symbols = more_symbols d.symbols d.pending _ (omega arith) d.pending_symbols
+          (sym c.is_symbol.ensures ∙ c.if-not-is_symbol.false);
+      few_padding = d.few_padding;
+    }
+
+pub group_of-requires : goal.group_of-requires
+group_of-requires g c =
+    let d = c.args.self.now in record {
+      first = kept_symbol d.symbols d.pending 0 (omega arith) (omega (arith, d.few_pending)) d.pending_symbols;
+      second = kept_symbol d.symbols d.pending 1 (omega arith) (omega (arith, d.few_pending)) d.pending_symbols;
+      third = kept_symbol d.symbols d.pending 2 (omega arith) (omega (arith, d.few_pending)) d.pending_symbols;
+      fourth = sym c.is_symbol.ensures ∙ c.if-not-is_symbol.false;
+    }
