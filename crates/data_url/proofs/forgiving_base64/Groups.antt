@@ -10,7 +10,8 @@ use Rattle.std.proofs.lemmas.List.{length-map, take_rest, map-append, length-rep
 use Rattle.std.specs.List.{list_all, prefix_len, filter, list_any}
 use Rattle.data_url.specs.Base64.{decoded, first_fault, left_padding, left_symbols, left_text}
 use Rattle.data_url.specs.Base64.{group_bytes, group_number, groups, is_symbol, symbol_value, values, after_groups}
-use Rattle.data_url.specs.{Laws.{GoesOn, TwoFeeds}, Steps.Groups.{Fills, is_symbol_or_space}, Steps.Lanes.{DecodesFront}}
+use Rattle.data_url.specs.{Laws.{GoesOn, TwoFeeds}, Steps.Lanes.{DecodesFront}}
+use Rattle.data_url.specs.Steps.Groups.{Fills, is_symbol_or_space}
 use Rattle.data_url.proofs.forgiving_base64.Padding.{after_groups-append, after_groups-map, before-append, before_none}
 use Rattle.data_url.proofs.forgiving_base64.Padding.{any_filter, filter_every, classes, every_list_all, filter_all}
 use Rattle.data_url.proofs.forgiving_base64.Padding.{done_is, every_after, fault-append, fault_byte, fault_invalid}
@@ -64,8 +65,8 @@ spaces_only (c ∷ t) h =
     grind (arith)
 
 -- the groups that a text begins with, and white space after them
-fill_row : (held block bytes : List ℕ) (m k : ℕ) → 4 * m + k ≤ length block → list_all is_symbol (take (4 * m) block) ≡ true
-    → list_all is_ascii_whitespace (take k (drop (4 * m) block)) ≡ true
+fill_row : (held block bytes : List ℕ) (m k : ℕ) → 4 * m + k ≤ length block
+    → list_all is_symbol (take (4 * m) block) ≡ true → list_all is_ascii_whitespace (take k (drop (4 * m) block)) ≡ true
     → bytes ≡ groups (map symbol_value (take (4 * m) block)) → Fills held (take (4 * m + k) block) (held ++ bytes)
 fill_row held block bytes m k within all spaces is =
     let q = take (4 * m) block in

@@ -1,8 +1,8 @@
 -- Blocks of 64 symbols in vectors. For `blocks.rt` and `lanes.rt`.
 use Rattle.std.proofs.Common.{List, [], ◌∷◌, ◌++◌, map, lit<, drop-drop, ◌≡◌, ℕ, ◌<◌, ltb, true, cond, eqb, get_or}
 use Rattle.std.proofs.Common.{append_assoc, length-take-le, length, take, Fits, w8, ap, length-drop, take-add, ◌+◌, ◌*◌}
-use Rattle.std.proofs.Common.{◌/◌, ◌%◌, ◌^◌, Bool, not, refl, sym, ◌∙◌, ap₂, arith, suc, zero, ext_get_or, take_all, subst}
-use Rattle.std.proofs.Common.{get_or-take}
+use Rattle.std.proofs.Common.{◌/◌, ◌%◌, ◌^◌, Bool, not, refl, sym, ◌∙◌, ap₂, arith, suc, zero, ext_get_or, take_all}
+use Rattle.std.proofs.Common.{get_or-take, subst}
 use Rattle.std.{proofs.Common.{◌≤◌, ◌&&◌, drop, bit_or}, proofs.lemmas.List.Folds.{list_all-append}}
 use Rattle.std.{proofs.Math.Bool.{and-true, and_assoc}, specs.List.{range_with_len, list_all}}
 use Rattle.std.proofs.lemmas.Bool.{agree_below_at, and_parts, cond-true, eqb-true, ltb-true, cases_eq, ne_eqb}
@@ -193,10 +193,12 @@ module _ (f : ℕ → ℕ) (bytes : (k : ℕ) → f k < 256) where
   wide k = omega (arith, bytes k, bytes (k + 1), bytes (k + 2), bytes (k + 3))
 
   -- the bytes of the numbers of a row
-  e : (j i : ℕ) (a : i < 4) (b : 4 * j + i < 16)
+  byte_of : (j i : ℕ) → i < 4 → 4 * j + i < 16
       → get_or (digits_l 256 16 (number_l 4294967296 (numbers (row f)))) (4 * j + i) 0
       ≡ get_or (numbers (row f)) j 0 / 256 ^ i % 256
-  e j i a b = get_or_narrower 4294967296 4 256 16 (numbers (row f)) j i refl (wide 0, (wide 4, (wide 8, (wide 12, tt)))) a b
+  byte_of j i few within =
+      let fit : Each1 (λ x. x < 4294967296) (numbers (row f)) = (wide 0, (wide 4, (wide 8, (wide 12, tt)))) in
+      get_or_narrower 4294967296 4 256 16 (numbers (row f)) j i refl fit few within
 
   -- if the first 4 * m of 16 bytes, written out, are below 64, the bytes of their groups are the first that are packed
   packed_row : (m : ℕ) → m ≤ 4 → ((k : ℕ) → k < 4 * m → f k < 64)
@@ -204,26 +206,32 @@ module _ (f : ℕ → ℕ) (bytes : (k : ℕ) → f k < 256) where
   unfolding groups
   packed_row zero few small = refl
   packed_row (suc zero) few small =
-      group_same _ (narrow small 0 (lit< tt)) (e 0 2 (lit< tt) (lit< tt)) (e 0 1 (lit< tt) (lit< tt))
-      (e 0 0 (lit< tt) (lit< tt)) refl
+      group_same _ (narrow small 0 (lit< tt)) (byte_of 0 2 (lit< tt) (lit< tt)) (byte_of 0 1 (lit< tt) (lit< tt))
+      (byte_of 0 0 (lit< tt) (lit< tt)) refl
   packed_row (suc (suc zero)) few small =
-      group_same _ (narrow small 0 (lit< tt)) (e 0 2 (lit< tt) (lit< tt)) (e 0 1 (lit< tt) (lit< tt))
-      (e 0 0 (lit< tt) (lit< tt)) (group_same _ (narrow small 4 (lit< tt)) (e 1 2 (lit< tt) (lit< tt)) (e 1 1 (lit< tt) (lit< tt))
-      (e 1 0 (lit< tt) (lit< tt)) refl)
+      group_same _ (narrow small 0 (lit< tt)) (byte_of 0 2 (lit< tt) (lit< tt)) (byte_of 0 1 (lit< tt) (lit< tt))
+      (byte_of 0 0 (lit< tt) (lit< tt))
+      (group_same _ (narrow small 4 (lit< tt)) (byte_of 1 2 (lit< tt) (lit< tt)) (byte_of 1 1 (lit< tt) (lit< tt))
+      (byte_of 1 0 (lit< tt) (lit< tt)) refl)
   packed_row (suc (suc (suc zero))) few small =
-      group_same _ (narrow small 0 (lit< tt)) (e 0 2 (lit< tt) (lit< tt)) (e 0 1 (lit< tt) (lit< tt))
-      (e 0 0 (lit< tt) (lit< tt)) (group_same _ (narrow small 4 (lit< tt)) (e 1 2 (lit< tt) (lit< tt)) (e 1 1 (lit< tt) (lit< tt))
-      (e 1 0 (lit< tt) (lit< tt)) (group_same _ (narrow small 8 (lit< tt)) (e 2 2 (lit< tt) (lit< tt)) (e 2 1 (lit< tt) (lit< tt))
-      (e 2 0 (lit< tt) (lit< tt)) refl))
+      group_same _ (narrow small 0 (lit< tt)) (byte_of 0 2 (lit< tt) (lit< tt)) (byte_of 0 1 (lit< tt) (lit< tt))
+      (byte_of 0 0 (lit< tt) (lit< tt))
+      (group_same _ (narrow small 4 (lit< tt)) (byte_of 1 2 (lit< tt) (lit< tt)) (byte_of 1 1 (lit< tt) (lit< tt))
+      (byte_of 1 0 (lit< tt) (lit< tt))
+      (group_same _ (narrow small 8 (lit< tt)) (byte_of 2 2 (lit< tt) (lit< tt)) (byte_of 2 1 (lit< tt) (lit< tt))
+      (byte_of 2 0 (lit< tt) (lit< tt)) refl))
   packed_row (suc (suc (suc (suc zero)))) few small =
-      group_same _ (narrow small 0 (lit< tt)) (e 0 2 (lit< tt) (lit< tt)) (e 0 1 (lit< tt) (lit< tt))
-      (e 0 0 (lit< tt) (lit< tt)) (group_same _ (narrow small 4 (lit< tt)) (e 1 2 (lit< tt) (lit< tt)) (e 1 1 (lit< tt) (lit< tt))
-      (e 1 0 (lit< tt) (lit< tt)) (group_same _ (narrow small 8 (lit< tt)) (e 2 2 (lit< tt) (lit< tt)) (e 2 1 (lit< tt) (lit< tt))
-      (e 2 0 (lit< tt) (lit< tt)) (group_same _ (narrow small 12 (lit< tt)) (e 3 2 (lit< tt) (lit< tt)) (e 3 1 (lit< tt) (lit< tt))
-      (e 3 0 (lit< tt) (lit< tt)) refl)))
+      group_same _ (narrow small 0 (lit< tt)) (byte_of 0 2 (lit< tt) (lit< tt)) (byte_of 0 1 (lit< tt) (lit< tt))
+      (byte_of 0 0 (lit< tt) (lit< tt))
+      (group_same _ (narrow small 4 (lit< tt)) (byte_of 1 2 (lit< tt) (lit< tt)) (byte_of 1 1 (lit< tt) (lit< tt))
+      (byte_of 1 0 (lit< tt) (lit< tt))
+      (group_same _ (narrow small 8 (lit< tt)) (byte_of 2 2 (lit< tt) (lit< tt)) (byte_of 2 1 (lit< tt) (lit< tt))
+      (byte_of 2 0 (lit< tt) (lit< tt))
+      (group_same _ (narrow small 12 (lit< tt)) (byte_of 3 2 (lit< tt) (lit< tt)) (byte_of 3 1 (lit< tt) (lit< tt))
+      (byte_of 3 0 (lit< tt) (lit< tt)) refl)))
   packed_row (suc (suc (suc (suc (suc m))))) few small = absurd (omega arith)
 
--- if the first 4 * m of 16 items of bytes are symbols, the bytes packed from their numbers begin with those of the symbols
+-- the bytes packed from 16 bytes begin with those of the groups of symbols that these begin with
 pub packed_is : (s vs ns : List ℕ) → length s ≡ 16 → Each1 (Fits w8) s → vs ≡ map value_of s → ns ≡ numbers vs
     → DecodesFront s (packed ns)
 packed_is s vs ns long fits p q m few all =
@@ -435,7 +443,8 @@ decoded_rows : (w x y z a b c d : List ℕ) → length w ≡ 16 → length x ≡
 decoded_rows w x y z a b c d lw lx ly lz all p q r s =
     let f = and_parts (list_all is_symbol w) (list_all is_symbol (x ++ (y ++ z)))
     (sym (list_all-append is_symbol w (x ++ (y ++ z))) ∙ all) in
-    let g = and_parts (list_all is_symbol x) (list_all is_symbol (y ++ z)) (sym (list_all-append is_symbol x (y ++ z)) ∙ f.1) in
+    let g = and_parts (list_all is_symbol x) (list_all is_symbol (y ++ z))
+    (sym (list_all-append is_symbol x (y ++ z)) ∙ f.1) in
     let h = and_parts (list_all is_symbol y) (list_all is_symbol z) (sym (list_all-append is_symbol y z) ∙ g.1) in
     cc (
       whole_row w a lw f.0 p,
@@ -450,8 +459,8 @@ decoded_rows w x y z a b c d lw lx ly lz all p q r s =
     )
 
 -- if the groups of four rows of symbols are decoded, their bytes joined are those of all 16 groups
-pub decoded_block : (text a b c d r0 r1 r2 r3 bytes : List ℕ) → 64 ≤ length text → list_all is_symbol (take 64 text) ≡ true
-    → length a ≡ 16 → length b ≡ 16 → length c ≡ 16 → length d ≡ 16
+pub decoded_block : (text a b c d r0 r1 r2 r3 bytes : List ℕ) → 64 ≤ length text
+    → list_all is_symbol (take 64 text) ≡ true → length a ≡ 16 → length b ≡ 16 → length c ≡ 16 → length d ≡ 16
     → r0 ≡ take 16 (drop 0 text) → r1 ≡ take 16 (drop 16 text) → r2 ≡ take 16 (drop 32 text)
     → r3 ≡ take 16 (drop 48 text)
     → DecodesFront r0 a → DecodesFront r1 b → DecodesFront r2 c → DecodesFront r3 d
