@@ -1,5 +1,5 @@
 -- Blocks of 64 symbols in vectors. For `blocks.rt` and `lanes.rt`.
-use Rattle.std.proofs.Common.{List, [], ◌∷◌, ◌++◌, map, lit<, drop-drop, ◌≡◌, ℕ, ◌<◌, ltb, true, cond, eqb, get_or}
+use Rattle.std.proofs.Common.{List, [], ◌∷◌, ◌++◌, map, lit<, ◌≡◌, ℕ, ◌<◌, ltb, true, cond, eqb, get_or}
 use Rattle.std.proofs.Common.{append_assoc, length-take-le, length, take, Fits, w8, ap, length-drop, take-add, ◌+◌, ◌*◌}
 use Rattle.std.proofs.Common.{◌/◌, ◌%◌, ◌^◌, Bool, not, refl, sym, ◌∙◌, ap₂, arith, suc, zero, ext_get_or, take_all}
 use Rattle.std.proofs.Common.{get_or-take, subst}
@@ -7,7 +7,7 @@ use Rattle.std.{proofs.Common.{◌≤◌, ◌&&◌, drop, bit_or}, proofs.lemmas
 use Rattle.std.{proofs.Math.Bool.{and-true, and_assoc}, specs.List.{range_with_len, list_all}}
 use Rattle.std.proofs.lemmas.Bool.{agree_below_at, and_parts, cond-true, eqb-true, ltb-true, cases_eq, ne_eqb}
 use Rattle.std.proofs.lemmas.List.{get_or-map, length-map, map-append, nil_from_length, take-map}
-use Rattle.std.{proofs.lemmas.Nat.{and_le_r, and_le_l, or_lt}, proofs.lemmas.Simd.{length-swz_l, pick_l_whole, swz_l}}
+use Rattle.std.{proofs.lemmas.Nat.{and_le_r, and_le_l, mod-pow-add, or_lt}, proofs.lemmas.Simd.{length-swz_l, pick_l_whole, swz_l}}
 use Rattle.std.proofs.lemmas.Simd.{SwzOk-from_below, get_or_narrower, bitmask_splat, chunk-fits, mask_l-lt}
 use Rattle.std.proofs.lemmas.Simd.{zip2_of_maps, Each1-get_or, SwzOk, length-zip2, map-map, get_or-swz_l_below}
 use Rattle.std.specs.Char.{is_ascii_whitespace as std_whitespace, is_ascii_whitespace}
@@ -298,24 +298,11 @@ others_mask v = mask_l (map is_other v)
 pub mask_lt : (v : List ℕ) → length v ≡ 16 → others_mask v < 65536
 mask_lt v long = grind (arith, length-map, mask_l-lt)
 
--- if the mask is a multiple of 16, its first four bytes are symbols, and the rest of it is the mask of the bytes after
--- them
-group_mask : (v : List ℕ) → 4 ≤ length v → others_mask v % 16 ≡ 0
-    → (list_all is_symbol (take 4 v) ≡ true) × (others_mask v / 16 ≡ others_mask (drop 4 v))
-group_mask [] h e = absurd (omega arith)
-group_mask (a ∷ []) h e = absurd (omega arith)
-group_mask (a ∷ b ∷ []) h e = absurd (omega arith)
-group_mask (a ∷ b ∷ c ∷ []) h e = absurd (omega arith)
-group_mask (a ∷ b ∷ c ∷ d ∷ v) h e = grind arith
-
--- one more group of symbols, and the mask of the bytes after it
-pub next_group : (v : List ℕ) (g : ℕ) → length v ≡ 16 → g < 4 → others_mask (drop (4 * g) v) % 16 ≡ 0
-    → list_all is_symbol (take (4 * g) v) ≡ true
-    → (list_all is_symbol (take (4 * (g + 1)) v) ≡ true)
-    × (others_mask (drop (4 * g) v) / 16 ≡ others_mask (drop (4 * (g + 1)) v))
-next_group v g long few zeros all =
-    let e = take-add (4 * g) 4 v in
-    grind (arith, group_mask (drop (4 * g) v), length-drop (4 * g) v, list_all-append, drop-drop 4 (4 * g) v)
+-- if the mask is a multiple of 2 ^ k, the first k bytes are symbols
+pub front_of_mask : (k : ℕ) (v : List ℕ) → others_mask v % 2 ^ k ≡ 0 → list_all is_symbol (take k v) ≡ true
+front_of_mask zero v e = refl
+front_of_mask (suc k) [] e = refl
+front_of_mask (suc k) (x ∷ v) e = grind (arith, front_of_mask k v, mod-pow-add (others_mask (x ∷ v)) k 1)
 
 -- No mark in four rows
 

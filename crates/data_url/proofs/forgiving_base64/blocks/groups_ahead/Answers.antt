@@ -1,10 +1,15 @@
-use Rattle.std.proofs.Common.{arith, sym, ◌∙◌, ap, ◌%◌}
-use Rattle.data_url.proofs.forgiving_base64.Vectors.{next_group}
+use Rattle.std.proofs.Common.{◌%◌, ◌∙◌, ap, sym}
+use Rattle.data_url.proofs.forgiving_base64.Vectors.{front_of_mask}
 use Rattle.data_url.proofs.forgiving_base64.blocks.groups_ahead.Goals as goal
 
-pub loop-groups-preserved : goal.loop-groups-preserved
-loop-groups-preserved c =
-    let i = c.loop-groups.invariant in
-    let p = next_group c.args.bytes c.loop-groups.groups c.fits-bytes.0 c.loop-groups-test.true
-    (ap (λ m. m % 16) (sym i.mask) ∙ c.if-rest-eq0.true) i.symbols in
-    record { few = omega arith; mask = cc (i.mask, p.1); symbols = p.0 }
+pub returns-then-mask-eq0-clause-symbols : goal.returns-then-mask-eq0-clause-symbols
+returns-then-mask-eq0-clause-symbols c =
+    front_of_mask 12 c.args.bytes (ap (λ m. m % 4096) (sym c.others-mask.ensures.mask) ∙ c.if-mask-eq0.true)
+
+pub returns-then-mask-eq0-2-clause-symbols : goal.returns-then-mask-eq0-2-clause-symbols
+returns-then-mask-eq0-2-clause-symbols c =
+    front_of_mask 8 c.args.bytes (ap (λ m. m % 256) (sym c.others-mask.ensures.mask) ∙ c.if-mask-eq0-2.true)
+
+pub returns-else-mask-eq0-2-clause-symbols : goal.returns-else-mask-eq0-2-clause-symbols
+returns-else-mask-eq0-2-clause-symbols c =
+    front_of_mask 4 c.args.bytes (ap (λ m. m % 16) (sym c.others-mask.ensures.mask) ∙ c.if-mask-ne0.false)

@@ -49,7 +49,7 @@ loop-rest-preserved c =
         c.if-taken-eq0.false,
       ));
       leaves = leaves_then (4 * m + k) i.leaves (row_fills c.loop-rest.self.bytes _ _ _ rest c.loop-rest.len m k
-          (omega (arith, c.loop-rest.self.sized)) c.put.ensures c.decode_row.ensures.bytes c.row-row.ensures ahead.few
+          (omega (arith, c.loop-rest.self.sized)) c.put.ensures c.decode_row.ensures.bytes c.row-row.ensures (omega (arith, ahead.few))
           few (sym (ap (list_all is_symbol) front) ∙ ahead.symbols)
           (rw (c.spaces_len.ensures.prefix, take_rest rest (4 * m)) (spaces_front (drop (4 * m) rest))));
     }
