@@ -37,8 +37,7 @@ fn others(bytes: u8x16) -> u64
     marks_of(bytes).simd_ne(u8x16::splat(0)).to_bitmask()
 }
 
-/// Returns how many whole groups of symbols a row begins with, up to three. None and three are tested first: these are
-/// what the rows at the ends of lines of 64, 60 and 76 symbols begin with.
+/// Returns how many whole groups of symbols a row begins with, up to three. The most frequent numbers come first.
 #[inline(always)]
 pub(crate) fn groups_ahead(bytes: u8x16) -> usize
     ensures few { result ≤ 3 }
