@@ -20,8 +20,8 @@ pub record State (F : Type 0) : Type 0 where
 abbrev pub state_of : {F E : Type 0} → Decoder F E → State F
 state_of d = record {
   closure = d.write_bytes;
-  symbols = take d.pending d.symbols;
-  padding = d.padding;
+  symbols = take d.state.pending d.state.symbols;
+  padding = d.state.padding;
   failed = d.failed;
 }
 

@@ -3,7 +3,7 @@ use Rattle.std.proofs.Common.{Option, None, Some, is_some, Result, Ok, Err, refl
 use Rattle.std.proofs.Common.{append_assoc, drop-drop, length-append, length-take, take-append-drop, append-nil}
 use Rattle.std.proofs.Common.{false, cond, min, ◌||◌, List, [], ◌∷◌, ◌++◌, length, map, drop, get_or, take, take-add}
 use Rattle.std.{proofs.Common.{get_or-drop, length-drop, MatchResult}, specs.Option.{option_or}}
-use Rattle.std.proofs.Common.{◌≡◌, ℕ, suc, zero, ◌+◌, ◌-◌, ◌/◌, ◌<◌, ◌≤◌, length-take-le, Bool, true}
+use Rattle.std.proofs.Common.{◌≡◌, ℕ, ◌+◌, ◌-◌, ◌/◌, ◌<◌, ◌≤◌, length-take-le, Bool, true}
 use Rattle.std.{proofs.lemmas.Bool.{and_parts, true≢false}, specs.List.{filter, list_all}, specs.Result.{result_err}}
 use Rattle.std.proofs.lemmas.List.{nil_from_length, take_more, take_rest}
 use Rattle.data_url.specs.Base64.{Kind, after_groups, first_fault, groups, is_symbol, left_padding, left_symbols}
@@ -48,6 +48,10 @@ allowed_pads (c ∷ t) h =
 
 -- Text that is read without a call
 
+-- the state of a decoder, by its closure, whether it has failed, and a state with what is left over
+abbrev pub with_closure : {F : Type 0} → F → Bool → State (Unit {0}) → State F
+with_closure f failed s = record { closure = f; symbols = s.symbols; padding = s.padding; failed = failed }
+
 -- an option that is not `Some` is `None`
 none_from : {A : Type 0} (o : Option A) → is_some o ≡ false → o ≡ None
 none_from None e = refl
@@ -55,7 +59,7 @@ none_from (Some x) e = absurd (true≢false e)
 
 module _ {F : Type 0} where
   -- if d has no padding, a text of symbols and white space adds the groups of its symbols, after those left over in d
-  adds_spaced : {d d' : State F} (t k : List ℕ) {bytes : List ℕ} → IsSound d → d.padding ≡ 0
+  adds_spaced : {d d' : State F} (t k : List ℕ) {bytes : List ℕ} → IsSound d.symbols d.padding → d.padding ≡ 0
       → list_all is_symbol_or_space t ≡ true → k ≡ filter is_symbol t
       → bytes ≡ groups (map symbol_value (d.symbols ++ k)) → d'.closure ≡ d.closure
       → d'.symbols ≡ after_groups (d.symbols ++ k) → d'.padding ≡ 0 → d'.failed ≡ false → Adds d t bytes d'
@@ -97,15 +101,9 @@ module _ {F : Type 0} where
   gains_one (c ∷ t) more some a e = grind arith
 
   -- the first byte of a text, which completes no group
-  pub gains_none : {d d' : State F} {held : List ℕ} (text : List ℕ) → 1 ≤ length text
-      → Adds d (get_or text 0 0 ∷ []) [] d' → Gains d held text 1 d' held
-  gains_none {held = held} text some a = gains_one text [] some a (sym (append-nil held))
-
--- no bytes have no groups
-pub fills_none : {held held' : List ℕ} (text : List ℕ) (n : ℕ) → n ≡ 0 → Fills held (take n text) held' → held' ≡ held
-unfolding groups
-fills_none text zero e f = grind (arith, append-nil)
-fills_none text (suc n) e f = absurd (omega arith)
+  pub gains_none : {d d' : State F} {held held' : List ℕ} (text : List ℕ) → 1 ≤ length text
+      → Adds d (get_or text 0 0 ∷ []) [] d' → held' ≡ held → Gains d held text 1 d' held'
+  gains_none {held = held} text some a e = gains_one text [] some a (e ∙ sym (append-nil held))
 
 -- `len` is the number of bytes that are held
 pub held_len : (p : HeldGroups) → length (held_bytes p) ≡ p.len
@@ -141,9 +139,9 @@ held_cut s b at end h =
 
 module _ {F E : Type 0} (step : F → List ℕ → Result (Unit {0}) E → F → Type 0) where
   -- if c is a fault and completes no group, feeding c returns its error without a call, and d has failed
-  refuses_feeds : {d d1 d2 d' : State F} {c : ℕ} {kind : Kind} → left_over d ≡ left_over d1 → Refuses d1 c kind d2
-      → d' ≡ record d { failed = true } → Feeds step d (c ∷ []) (Err (InvalidBase64 kind)) d'
-  refuses_feeds {d} {d1} {d2} {d'} {c} e f same = grind arith
+  refuses_feeds : {d d' : State F} {d1 d2 : State (Unit {0})} {c : ℕ} {kind : Kind} → left_over d ≡ left_over d1
+      → Refuses d1 c kind d2 → d' ≡ record d { failed = true } → Feeds step d (c ∷ []) (Err (InvalidBase64 kind)) d'
+  refuses_feeds {d} {d'} {d1} {d2} {c} e f same = grind arith
 
   -- what is left over stays if the symbols and the padding do
   left_stays : {d d' : State F} {u : List ℕ} → IsLeft u d → d'.symbols ≡ d.symbols → d'.padding ≡ d.padding
@@ -153,7 +151,7 @@ module _ {F E : Type 0} (step : F → List ℕ → Result (Unit {0}) E → F →
   -- Text that is read
 
   -- nothing was read
-  pub reads_none : {d : State F} → IsSound d → d.failed ≡ false → Reads step d [] [] d
+  pub reads_none : {d : State F} → IsSound d.symbols d.padding → d.failed ≡ false → Reads step d [] [] d
   reads_none s going = let a = adds_none s going in record {
     run = [];
     ran = refl;
@@ -191,11 +189,17 @@ module _ {F E : Type 0} (step : F → List ℕ → Result (Unit {0}) E → F →
       → Reads step d (take (at + n) s) (held ++ more) d2
   reads_more s at n r a = rw (sym (taken_more s at n)) (reads_then r a)
 
+  -- what is read without the closure is read with it
+  adds_lifted : {f : F} {failed : Bool} {d d' : State (Unit {0})} {t bytes : List ℕ} → failed ≡ false
+      → Adds d t bytes d' → Adds (with_closure f failed d) t bytes (with_closure f failed d')
+  adds_lifted going a = grind arith
+
   -- the bytes of one more group of steps
-  pub reads_gained : {d d1 d2 : State F} {held held' : List ℕ} (s : List ℕ) (at n : ℕ)
-      → Reads step d (take at s) held d1 → Gains d1 held (take (length s - at) (drop at s)) n d2 held'
-      → Reads step d (take (at + n) s) held' d2
-  reads_gained s at n r g = rw g.held_are (reads_more s at n r g.adds)
+  pub reads_gained : {d : State F} {f : F} {failed : Bool} {d1 d2 : State (Unit {0})} {held held' : List ℕ} (s : List ℕ)
+      (at n : ℕ) → Reads step d (take at s) held (with_closure f failed d1)
+      → Gains d1 held (take (length s - at) (drop at s)) n d2 held'
+      → Reads step d (take (at + n) s) held' (with_closure f failed d2)
+  reads_gained s at n r g = rw g.held_are (reads_more s at n r (adds_lifted r.going g.adds))
 
   -- the closure accepts a front of the bytes that are held
   pub reads_called : {d d1 d2 : State F} {t : List ℕ} (a b : List ℕ) → (length b + 2) / 3 < (length a + length b + 2)
@@ -265,10 +269,11 @@ module _ {F E : Type 0} (step : F → List ℕ → Result (Unit {0}) E → F →
   reads_flushed {d} {t = t} held (Err e) h f = f d t [] (rw (append-nil held) h)
 
   -- if the byte at an index is a fault, feeding s returns its error after the bytes before it
-  pub reads_fault : {d d1 d2 d3 d4 : State F} {held : List ℕ} {kind : Kind} (s : List ℕ) (at c : ℕ) → at < length s
-      → c ≡ get_or s at 0 → Reads step d (take at s) held d1 → Refuses d1 c kind d2 → Reads step d (take at s) [] d3
+  pub reads_fault : {d d3 d4 : State F} {g : F} {failed : Bool} {d1 d2 : State (Unit {0})} {held : List ℕ} {kind : Kind}
+      (s : List ℕ) (at c : ℕ) → at < length s → c ≡ get_or s at 0
+      → Reads step d (take at s) held (with_closure g failed d1) → Refuses d1 c kind d2 → Reads step d (take at s) [] d3
       → d4 ≡ record d3 { failed = true } → Feeds step d s (Err (InvalidBase64 kind)) d4
-  reads_fault {d} {d1} {d2} {d3} {d4} {held} {kind} s at c inside is before f after same =
+  reads_fault {d} {d3} {d4} {d1 = d1} {kind = kind} s at c inside is before f after same =
       let P : List ℕ → Type 0 = λ t. Feeds step d t (Err (InvalidBase64 kind)) d4 in
       let more : take at s ++ c ∷ [] ≡ take (at + 1) s = cc (take_more s at 0 inside) in
       let left : left_over d3 ≡ left_over d1 = cc (

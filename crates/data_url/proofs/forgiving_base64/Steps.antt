@@ -11,9 +11,10 @@ use Rattle.std.proofs.lemmas.List.{get_or-take, length-map, length-replicate, ni
 use Rattle.data_url.specs.Base64.{after_groups, decoded, complete_bytes, first_fault, group_bytes, group_number, groups}
 use Rattle.data_url.specs.Base64.{is_symbol, is_valid, kind_of, left_padding, left_symbols, left_text, rest_bytes}
 use Rattle.data_url.specs.{Base64.{symbol_value, values}, Mime.{Every}, Run.{IsRun, IsPrefix, joined_pieces, refusal}}
-use Rattle.data_url.specs.Decoder.{Feeds, Finishes, State, left_over, IsLeft, IsTaken, state_of}
+use Rattle.data_url.specs.Decoder.{Feeds, Finishes, State, left_over, IsLeft, IsTaken}
 use Rattle.data_url.specs.{Errors.{IsRefused}, Laws.{GoesOn}, declared.forgiving_base64.DecodeError.{DecodeError}}
-use Rattle.data_url.specs.{Steps.Holding.{Adds, CallsOnce, Refuses}, declared.forgiving_base64.decode.Decoder.{Decoder}}
+use Rattle.data_url.specs.Steps.Holding.{Adds, CallsOnce, Refuses}
+use Rattle.data_url.specs.declared.forgiving_base64.decode.State as left
 use Rattle.data_url.specs.declared.forgiving_base64.DecodeError.TheVariants.{WriteError, InvalidBase64}
 use Rattle.data_url.specs.declared.forgiving_base64.InvalidBase64Details.TheVariants.{AlphabetSymbolAfterPadding}
 use Rattle.data_url.specs.declared.forgiving_base64.InvalidBase64Details.TheVariants.{LoneAlphabetSymbol, Padding}
@@ -223,22 +224,22 @@ told_call (Err e) r P all bytes q f h = grind arith
 
 -- A decoder that is fed a short text
 
--- what holds of the state of each decoder
-pub record IsSound {F : Type 0} (d : State F) : Type 0 where
-  pub every : Every is_symbol d.symbols
-  pub few : length d.symbols ≤ 3
-  pub few_padding : d.padding ≤ 3
+-- what holds of the symbols and the padding that a text leaves over
+pub record IsSound (q : List ℕ) (p : ℕ) : Type 0 where
+  pub every : Every is_symbol q
+  pub few : length q ≤ 3
+  pub few_padding : p ≤ 3
 
--- the state of a decoder, by its invariants
-pub sound : {F E : Type 0} (d : Decoder F E) → IsSound (state_of d)
-sound d = grind (arith, every_list_all, length-take)
+-- it holds of each state, by its invariants
+pub sound : (s : left.State) → IsSound (take s.pending s.symbols) s.padding
+sound s = grind (arith, every_list_all, length-take)
 
 module _ {F : Type 0} where
   -- how long groups, values and symbols are
   ruleset sizes = (groups_size, length-map, length-append, filter_length)
 
   -- d reads a text t without a fault that has the symbols k and n times '=', if the fields of d' are what is left over
-  pub adds_text : {d d' : State F} (t k bytes : List ℕ) (n : ℕ) → IsSound d
+  pub adds_text : {d d' : State F} (t k bytes : List ℕ) (n : ℕ) → IsSound d.symbols d.padding
       → fault_byte (has_pad d.padding) t ≡ None → filter is_symbol t ≡ k → length (filter is_pad t) ≡ n
       → bytes ≡ groups (map symbol_value (d.symbols ++ k)) → d'.closure ≡ d.closure
       → d'.symbols ≡ after_groups (d.symbols ++ k) → d'.padding ≡ min (d.padding + n) 3 → d'.failed ≡ false
@@ -247,7 +248,7 @@ module _ {F : Type 0} where
       grind (arith, sizes, none_fault, fault_more, done_more, left_more, padding_more)
 
   -- the text completes no group
-  adds_quiet : {d d' : State F} (t k : List ℕ) (n : ℕ) → IsSound d
+  adds_quiet : {d d' : State F} (t k : List ℕ) (n : ℕ) → IsSound d.symbols d.padding
       → fault_byte (has_pad d.padding) t ≡ None → filter is_symbol t ≡ k → length (filter is_pad t) ≡ n
       → length (d.symbols ++ k) ≤ 3 → d'.closure ≡ d.closure → d'.symbols ≡ d.symbols ++ k
       → d'.padding ≡ min (d.padding + n) 3 → d'.failed ≡ false → Adds d t [] d'
@@ -255,7 +256,7 @@ module _ {F : Type 0} where
       search (arith, adds_text, groups_few, length-map, after_few)
 
   -- d reads a symbol after at most two symbols and no padding: it keeps the symbol, and no group is complete
-  pub adds_kept : {d d' : State F} (c : ℕ) → IsSound d → length d.symbols + 1 ≤ 3 → d.padding ≡ 0
+  pub adds_kept : {d d' : State F} (c : ℕ) → IsSound d.symbols d.padding → length d.symbols + 1 ≤ 3 → d.padding ≡ 0
       → is_symbol c ≡ true → d'.closure ≡ d.closure → d'.symbols ≡ d.symbols ++ c ∷ [] → d'.padding ≡ d.padding
       → d'.failed ≡ false → Adds d (c ∷ []) [] d'
   adds_kept {d} c s few none symbol same symbols padding failed =
@@ -267,28 +268,28 @@ module _ {F : Type 0} where
       same symbols (padding ∙ none ∙ ap (λ p. min (p + 0) 3) (sym none)) failed
 
   -- d reads a byte of whitespace, and does not change
-  pub adds_space : {d : State F} (c : ℕ) → IsSound d
+  pub adds_space : {d : State F} (c : ℕ) → IsSound d.symbols d.padding
       → is_ascii_whitespace c ≡ true → d.failed ≡ false → Adds d (c ∷ []) [] d
   adds_space {d} c s space going =
       let same : d.padding ≡ min (d.padding + 0) 3 = omega (arith, s.few_padding) in
       search (arith, adds_quiet, fault_space, symbols_space, pads_space, append-nil, same)
 
   -- d reads the empty text, and does not change
-  pub adds_none : {d : State F} → IsSound d → d.failed ≡ false → Adds d [] [] d
+  pub adds_none : {d : State F} → IsSound d.symbols d.padding → d.failed ≡ false → Adds d [] [] d
   unfolding fault_byte
   adds_none {d} s going =
       adds_quiet [] [] 0 s refl refl refl (rw append-nil s.few) refl (sym (append-nil d.symbols))
       (omega (arith, s.few_padding)) going
 
   -- d reads a '=': it counts it, up to three
-  pub adds_pad : {d d' : State F} (c : ℕ) → c ≡ 61 → IsSound d → d.failed ≡ false
+  pub adds_pad : {d d' : State F} (c : ℕ) → c ≡ 61 → IsSound d.symbols d.padding → d.failed ≡ false
       → d' ≡ record d { padding = min (d.padding + 1) 3 } → Adds d (c ∷ []) [] d'
   adds_pad {d} {d'} c e s going same =
       rw (e, same) (adds_quiet (61 ∷ []) [] 1 s (fault_pads 1 (has_pad d.padding)) refl refl (rw append-nil s.few) refl
       (sym (append-nil d.symbols)) refl going)
 
   -- the fourth symbol completes a group
-  pub adds_group : {d d' : State F} (x y z c : ℕ) (group : List ℕ) → IsSound d
+  pub adds_group : {d d' : State F} (x y z c : ℕ) (group : List ℕ) → IsSound d.symbols d.padding
       → d.symbols ≡ x ∷ y ∷ z ∷ [] → d.padding ≡ 0 → is_symbol c ≡ true
       → group ≡ group_bytes (group_number (symbol_value x) (symbol_value y) (symbol_value z) (symbol_value c))
       → d'.closure ≡ d.closure → d'.symbols ≡ [] → d'.padding ≡ 0 → d'.failed ≡ false → Adds d (c ∷ []) group d'
@@ -309,21 +310,21 @@ module _ {F : Type 0} where
   ruleset incomplete = (append-nil, values_left, groups_few, length-map)
 
   -- if d has padding, it refuses a symbol
-  pub refuses_after : {d d' : State F} (c : ℕ) → IsSound d → 1 ≤ d.padding
+  pub refuses_after : {d d' : State F} (c : ℕ) → IsSound d.symbols d.padding → 1 ≤ d.padding
       → is_symbol c ≡ true → d' ≡ d → Refuses d c AlphabetSymbolAfterPadding d'
   refuses_after {d} c s pads symbol same = grind (arith, refusing, incomplete, has_pad_some, fault_after, any_of_text)
 
   -- d refuses a byte that is neither whitespace nor '=' nor a symbol
-  pub refuses_other : {d d' : State F} (c : ℕ) → IsSound d
+  pub refuses_other : {d d' : State F} (c : ℕ) → IsSound d.symbols d.padding
       → is_ascii_whitespace c ≡ false → is_pad c ≡ false → is_symbol c ≡ false → d' ≡ d
       → Refuses d c (UnexpectedSymbol c) d'
   refuses_other {d} c s space pad symbol same = grind (arith, refusing, incomplete, fault_other)
 
 module _ {F E : Type 0} (step : F → List ℕ → Result (Unit {0}) E → F → Type 0) where
   -- feeding the empty text returns `Ok`, and d does not change
-  pub feeds_none : {d d' : State F} → IsSound d
+  pub feeds_none : {d d' : State F} → IsSound d.symbols d.padding
       → d.failed ≡ false → d' ≡ d → Feeds step d [] (Ok tt) d'
-  feeds_none {d} {d'} s going same = grind (arith, adds_none s going)
+  feeds_none {d} {d'} s going same = grind (arith, adds_none {d = d} s going)
 
   -- One call
 

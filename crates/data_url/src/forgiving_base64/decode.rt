@@ -12,6 +12,74 @@ use super::{DecodeError, InvalidBase64, InvalidBase64Details};
 /// How many bytes the closure is called with at most: those of a block of 64 symbols.
 const PIECE: usize = 48;
 
+/// What a text leaves over: the symbols after its last whole group, and how much padding it has.
+#[derive(Drop)]
+struct State {
+    // The symbols are the first `pending` of these.
+    symbols: [u8; 3],
+    pending: usize,
+    // The number of `=`; 3 means three or more.
+    padding: u8,
+    ghost few_pending: { pending ≤ 3 },
+    ghost pending_symbols: { IsTrue (list_all is_symbol (take pending symbols)) },
+    ghost few_padding: { padding ≤ 3 },
+}
+
+impl State {
+    ghost use Rattle.data_url.specs.Steps.Groups.{held_bytes};
+    ghost use Rattle.data_url.specs.Steps.Holding.{Gains, IsBetweenGroups, Refuses, left_state};
+
+    /// Whether the next symbol begins a group.
+    #[inline(always)]
+    fn is_between_groups(&self) -> bool
+        ensures { result ≡ true → IsBetweenGroups (left_state self.now) }
+    {
+        self.pending == 0 && self.padding == 0
+    }
+
+    /// Takes the next bytes of a text, and adds the groups that they complete: whole groups if the next symbol begins a
+    /// group and the text begins with whole groups, or else one byte. Returns how many bytes it took.
+    #[inline(always)]
+    fn take_some(
+        &mut self,
+        text: &[u8],
+        groups: &mut HeldGroups,
+    ) -> Result<usize, InvalidBase64Details>
+        requires some { 1 ≤ length text.now }
+        requires room { groups.old.len < 192 }
+        ensures { MatchResult result
+            (λ taken. Gains (left_state self.old) (held_bytes groups.old) text.now taken
+            (left_state self.new) (held_bytes groups.new))
+            (λ details. Refuses (left_state self.old) (slice_index text.now 0) details (left_state self.new)
+            × (held_bytes groups.new ≡ held_bytes groups.old)) }
+    {
+        if self.is_between_groups() {
+            let taken = groups.fill(text);
+            if taken > 0 {
+                return Ok(taken);
+            }
+        }
+        let byte = text[0];
+        if byte == b'=' {
+            self.padding = (self.padding + 1).min(3);
+        } else if !is_symbol(byte) {
+            if !byte.is_ascii_whitespace() {
+                return Err(InvalidBase64Details::UnexpectedSymbol(byte));
+            }
+        } else if self.padding > 0 {
+            return Err(InvalidBase64Details::AlphabetSymbolAfterPadding);
+        } else if self.pending < 3 {
+            self.symbols[self.pending] = byte;
+            self.pending += 1;
+        } else {
+            self.pending = 0;
+            let [first, second, third] = self.symbols;
+            groups.push(group_of(first, second, third, byte));
+        }
+        Ok(1)
+    }
+}
+
 /// A decoder of base64
 /// ([Infra Standard, forgiving-base64 decode](https://infra.spec.whatwg.org/#forgiving-base64-decode)) that is fed
 /// its text in parts, cut anywhere, and calls a closure with the bytes.
@@ -24,15 +92,8 @@ where
     F: FnMut(&[u8]) -> Result<(), E>,
 {
     write_bytes: F,
-    // The symbols that are left over: the first `pending` of these.
-    symbols: [u8; 3],
-    pending: usize,
-    // The number of `=`; 3 means three or more.
-    padding: u8,
+    state: State,
     failed: bool,
-    ghost few_pending: { pending ≤ 3 },
-    ghost pending_symbols: { IsTrue (list_all is_symbol (take pending symbols)) },
-    ghost few_padding: { padding ≤ 3 },
 }
 
 impl<F, E> Decoder<F, E>
@@ -43,8 +104,7 @@ where
     ghost use Rattle.data_url.specs.Decoder.{Feeds, Finishes, left_over, start, state_of};
     ghost use Rattle.data_url.specs.Base64.{decoded, groups, symbol_value};
     ghost use Rattle.data_url.specs.Facts.{Fits};
-    ghost use Rattle.data_url.specs.Steps.Groups.{held_bytes};
-    ghost use Rattle.data_url.specs.Steps.Holding.{CallsOnce, Flushes, Gains, IsBetweenGroups, Reads, Refuses};
+    ghost use Rattle.data_url.specs.Steps.Holding.{CallsOnce, Flushes, Reads};
 
     /// Returns a decoder that has been fed nothing yet. The closure has to accept any bytes, whatever it was called
     /// with before.
@@ -55,9 +115,11 @@ where
     {
         Decoder {
             write_bytes,
-            symbols: [0; 3],
-            pending: 0,
-            padding: 0,
+            state: State {
+                symbols: [0; 3],
+                pending: 0,
+                padding: 0,
+            },
             failed: false,
         }
     }
@@ -121,76 +183,6 @@ where
         DecodeError::InvalidBase64(InvalidBase64 { details })
     }
 
-    /// Takes the first byte of a text, and adds the group that it completes. Returns 1.
-    #[inline(always)]
-    fn take_byte(
-        &mut self,
-        text: &[u8],
-        groups: &mut HeldGroups,
-    ) -> Result<usize, InvalidBase64Details>
-        requires some { 1 ≤ length text.now }
-        requires room { groups.old.len < 192 }
-        requires going { (state_of self.old).failed ≡ false }
-        ensures { MatchResult result
-            (λ taken. Gains (state_of self.old) (held_bytes groups.old) text.now taken
-            (state_of self.new) (held_bytes groups.new))
-            (λ details. Refuses (state_of self.old) (slice_index text.now 0) details (state_of self.new)
-            × (held_bytes groups.new ≡ held_bytes groups.old)) }
-    {
-        let byte = text[0];
-        if byte == b'=' {
-            self.padding = (self.padding + 1).min(3);
-        } else if !is_symbol(byte) {
-            if !byte.is_ascii_whitespace() {
-                return Err(InvalidBase64Details::UnexpectedSymbol(byte));
-            }
-        } else if self.padding > 0 {
-            return Err(InvalidBase64Details::AlphabetSymbolAfterPadding);
-        } else if self.pending < 3 {
-            self.symbols[self.pending] = byte;
-            self.pending += 1;
-        } else {
-            self.pending = 0;
-            let [first, second, third] = self.symbols;
-            groups.push(group_of(first, second, third, byte));
-        }
-        Ok(1)
-    }
-
-    /// Takes the next bytes of a text, and adds the groups that they complete: whole groups if
-    /// the text begins with some and the next symbol begins a group, or else one byte. Returns how many bytes it took.
-    #[inline(always)]
-    fn take_some(
-        &mut self,
-        text: &[u8],
-        groups: &mut HeldGroups,
-    ) -> Result<usize, InvalidBase64Details>
-        requires some { 1 ≤ length text.now }
-        requires room { groups.old.len < 192 }
-        requires going { (state_of self.old).failed ≡ false }
-        ensures { MatchResult result
-            (λ taken. Gains (state_of self.old) (held_bytes groups.old) text.now taken
-            (state_of self.new) (held_bytes groups.new))
-            (λ details. Refuses (state_of self.old) (slice_index text.now 0) details (state_of self.new)
-            × (held_bytes groups.new ≡ held_bytes groups.old)) }
-    {
-        if self.is_between_groups() {
-            let taken = groups.fill(text);
-            if taken > 0 {
-                return Ok(taken);
-            }
-        }
-        self.take_byte(text, groups)
-    }
-
-    /// Whether the next symbol begins a group.
-    #[inline(always)]
-    fn is_between_groups(&self) -> bool
-        ensures { result ≡ true → IsBetweenGroups (state_of self.now) }
-    {
-        self.pending == 0 && self.padding == 0
-    }
-
     /// If the next symbol begins a group, calls the closure with each block of 64 symbols that a text begins with,
     /// decoded as one piece. Returns how many bytes of the text they take.
     #[inline(always)]
@@ -205,7 +197,7 @@ where
             (state_of self.new)) }
     {
         let mut at = 0;
-        while self.is_between_groups() && text.len() - at >= 64 && is_whole(&text[at..]) {
+        while self.state.is_between_groups() && text.len() - at >= 64 && is_whole(&text[at..]) {
             self.write(&decode(&text[at..]))?;
             at += 64;
         }
@@ -232,7 +224,7 @@ where
         let mut groups = HeldGroups::new();
         let mut at = self.feed_blocks(input)?;
         while at < input.len() {
-            match self.take_some(&input[at..], &mut groups) {
+            match self.state.take_some(&input[at..], &mut groups) {
                 Ok(taken) => at += taken,
                 Err(details) => {
                     self.flush(groups.as_slice())?;
@@ -272,9 +264,9 @@ where
         ensures callable { F.IsAlwaysCallable result.1 }
         ensures finished { Finishes (CalledAt F.FnMut) (state_of self) result.0 result.1 }
     {
-        let [first, second, third] = self.symbols;
-        let padding = usize::from(self.padding);
-        let answer = match self.pending {
+        let [first, second, third] = self.state.symbols;
+        let padding = usize::from(self.state.padding);
+        let answer = match self.state.pending {
             1 => Err(self.refuse(InvalidBase64Details::LoneAlphabetSymbol)),
             pending if padding > 0 && pending + padding != 4 => {
                 Err(self.refuse(InvalidBase64Details::Padding))

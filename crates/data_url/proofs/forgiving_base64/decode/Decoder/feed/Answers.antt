@@ -10,14 +10,16 @@ pub returns-in_err-flush-in-Err-clause-fed : goal.returns-in_err-flush-in-Err-cl
 returns-in_err-flush-in-Err-clause-fed g c =
     let p = err_from_is_err_and c.from_residual-in_err-flush-in-Err.result
     c.from_residual-in_err-flush-in-Err.ensures.1 in
-    let flushed = rw (c.as_slice.ensures, c.in-Err.ensures.0.stays, c.in-Err.ensures.1) at
+    let stays = c.in-Err.ensures.0.stays in
+    let flushed = rw (c.as_slice.ensures, ap (λ s. s.symbols) stays, ap (λ s. s.padding) stays, c.in-Err.ensures.1) at
     c.in_err-flush-in-Err.ensures.flushed in
     rw (p.1, p.2) (feeds_stop (CalledAt g.F.FnMut) c.args.input.now c.loop-at.at (reads_flushed (CalledAt g.F.FnMut)
     (held_bytes c.loop-at.groups) _ c.loop-at.invariant.reads flushed))
 
 pub returns-in-Err-clause-fed : goal.returns-in-Err-clause-fed
 returns-in-Err-clause-fed g c =
-    let flushed = rw (c.as_slice.ensures, c.in-Err.ensures.0.stays, c.in-Err.ensures.1) at
+    let stays = c.in-Err.ensures.0.stays in
+    let flushed = rw (c.as_slice.ensures, ap (λ s. s.symbols) stays, ap (λ s. s.padding) stays, c.in-Err.ensures.1) at
     c.in_ok-flush-in-Err.ensures.flushed in
     rw c.refuse.ensures.kind (reads_fault (CalledAt g.F.FnMut) c.args.input.now c.loop-at.at _ c.loop-at-test.true
     (byte_at c.args.input.now c.loop-at.at c.loop-at-test.true) c.loop-at.invariant.reads c.in-Err.ensures.0
@@ -62,7 +64,7 @@ loop-at-preserved-then-groups-ge-FULL g c =
 
 pub loop-at-preserved : goal.loop-at-preserved
 loop-at-preserved g c = record {
-  callable = rw c.in-Ok.ensures.adds.closure_stays c.loop-at.invariant.callable;
+  callable = c.loop-at.invariant.callable;
   within = omega (arith, c.in-Ok.ensures.within, length-drop c.loop-at.at c.args.input.now);
   few = omega arith;
   reads = reads_gained (CalledAt g.F.FnMut) c.args.input.now c.loop-at.at c.in-Ok.taken c.loop-at.invariant.reads

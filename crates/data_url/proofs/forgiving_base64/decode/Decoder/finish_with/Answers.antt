@@ -9,10 +9,10 @@ pub returns-clause-finished : goal.returns-clause-finished
 returns-clause-finished g c =
     let step = CalledAt g.F.FnMut in
     let d = state_of c.args.self in
-    let every = every_list_all _ c.args.self.pending_symbols in
-    let size = length-take c.args.self.pending c.args.self.symbols in
-    let valid = valid_ends d.symbols d.padding every (omega (arith, size, c.args.self.few_pending))
-    c.args.self.few_padding in
+    let s = c.args.self.state in
+    let every = every_list_all _ s.pending_symbols in
+    let size = length-take s.pending s.symbols in
+    let valid = valid_ends d.symbols d.padding every (omega (arith, size, s.few_pending)) s.few_padding in
     elim c.match-self.branch [
       | goal.in_default w ↦ grind (arith, every_list_all, length-take, valid_left, kind_left, finishes_refused)
       | goal.in-2 w ↦
@@ -21,7 +21,7 @@ returns-clause-finished g c =
             | goal.else-padding-gt0 v ↦ inl (omega arith)
           ]) in
           rw (w.answer-is, c.into_closure.ensures, w.self-is) (finishes_called step d _ _
-          (decoded_two c.args.self.symbols c.args.self.pending d.padding (omega arith) (omega arith) every
+          (decoded_two s.symbols s.pending d.padding (omega arith) (omega arith) every
           ∙ sym (ap (take 1) w.group_of.ensures)) fits
           w.write-answer.ensures.called)
       | goal.in-3 w ↦
@@ -30,7 +30,7 @@ returns-clause-finished g c =
             | goal.else-padding-gt0 v ↦ inl (omega arith)
           ]) in
           rw (w.answer-is, c.into_closure.ensures, w.self-is) (finishes_called step d _ _
-          (decoded_three c.args.self.symbols c.args.self.pending d.padding (omega arith) (omega arith) every
+          (decoded_three s.symbols s.pending d.padding (omega arith) (omega arith) every
           ∙ sym (ap (take 2) w.group_of-in-3.ensures)) fits w.write-answer-in-3.ensures.called)
       | goal.in_default-2 w ↦
           let fits = valid (omega arith) (elim w.if-padding-gt0.branch [
@@ -38,29 +38,29 @@ returns-clause-finished g c =
             | goal.else-padding-gt0 v ↦ inl (omega arith)
           ]) in
           rw (w.answer-is, c.into_closure.ensures, w.self-is)
-          (finishes_nothing step d c.args.self.pending every (omega arith) (omega arith) fits)
+          (finishes_nothing step d s.pending every (omega arith) (omega arith) fits)
       | goal.in-1 w ↦ grind (arith, every_list_all, length-take, valid_left, kind_left, finishes_refused)
     ]
 
 pub group_of-requires-clause-first : goal.group_of-requires-clause-first
 group_of-requires-clause-first g c =
-    let d = c.args.self in kept_symbol d.symbols d.pending 0 (omega arith) (omega arith) d.pending_symbols
+    let d = c.args.self.state in kept_symbol d.symbols d.pending 0 (omega arith) (omega arith) d.pending_symbols
 
 pub group_of-requires-clause-second : goal.group_of-requires-clause-second
 group_of-requires-clause-second g c =
-    let d = c.args.self in kept_symbol d.symbols d.pending 1 (omega arith) (omega arith) d.pending_symbols
+    let d = c.args.self.state in kept_symbol d.symbols d.pending 1 (omega arith) (omega arith) d.pending_symbols
 
 pub group_of-requires-in-3-clause-first : goal.group_of-requires-in-3-clause-first
 group_of-requires-in-3-clause-first g c =
-    let d = c.args.self in kept_symbol d.symbols d.pending 0 (omega arith) (omega arith) d.pending_symbols
+    let d = c.args.self.state in kept_symbol d.symbols d.pending 0 (omega arith) (omega arith) d.pending_symbols
 
 pub group_of-requires-in-3-clause-second : goal.group_of-requires-in-3-clause-second
 group_of-requires-in-3-clause-second g c =
-    let d = c.args.self in kept_symbol d.symbols d.pending 1 (omega arith) (omega arith) d.pending_symbols
+    let d = c.args.self.state in kept_symbol d.symbols d.pending 1 (omega arith) (omega arith) d.pending_symbols
 
 pub group_of-requires-in-3-clause-third : goal.group_of-requires-in-3-clause-third
 group_of-requires-in-3-clause-third g c =
-    let d = c.args.self in kept_symbol d.symbols d.pending 2 (omega arith) (omega arith) d.pending_symbols
+    let d = c.args.self.state in kept_symbol d.symbols d.pending 2 (omega arith) (omega arith) d.pending_symbols
 
 pub returns-clause-callable : goal.returns-clause-callable
 returns-clause-callable g c = search rules
