@@ -1,13 +1,15 @@
 -- Groups of four symbols, and texts that are fed in two parts.
-use Rattle.std.proofs.Common.{get_or, take, drop, refl, ap, ap₂, arith, length-take}
+use Rattle.std.proofs.Common.{◌<◌, Bool, suc, zero, set, sym, get_or, take, drop, refl, ap, ap₂, arith, length-take}
 use Rattle.std.proofs.Common.{get_or-take, take-append-drop, append-nil, take-take, take_at}
 use Rattle.std.proofs.Common.{length-take-le, ◌∙◌, false, min, None, take-add, append_assoc, length-append, ◌/◌}
 use Rattle.std.proofs.Common.{◌≡◌, ℕ, ◌+◌, ◌*◌, ◌≤◌, true, ◌&&◌, ◌||◌, List, [], ◌∷◌, ◌++◌, map, length, ◌-◌}
 use Rattle.std.{proofs.Math.Seq.{take-append-add}, proofs.lemmas.Bool.{and_parts}, specs.Char.{is_ascii_whitespace}}
 use Rattle.std.{proofs.lemmas.List.Elements.{filter-append}, proofs.lemmas.List.Folds.{list_all-append}}
 use Rattle.std.proofs.lemmas.List.Sums.{list_all-from_AllPass, prefix_len-le-length, prefix_len_passes}
-use Rattle.std.proofs.lemmas.List.{length-map, take_rest, map-append, length-replicate}
+use Rattle.std.proofs.lemmas.List.{length-map, take_rest, map-append, length-replicate, take_more}
+use Rattle.std.proofs.lemmas.List.{take_more_set, take-set}
 use Rattle.std.specs.List.{list_all, prefix_len, filter, list_any}
+use mir.Val.{bool_byte}
 use Rattle.data_url.specs.Base64.{decoded, first_fault, left_padding, left_symbols, left_text}
 use Rattle.data_url.specs.Base64.{group_bytes, group_number, groups, is_symbol, symbol_value, values, after_groups}
 use Rattle.data_url.specs.{Laws.{GoesOn, TwoFeeds}, Steps.Lanes.{DecodesFront}}
@@ -64,50 +66,57 @@ spaces_only (c ∷ t) h =
     let r = spaces_only t p.1 in
     grind (arith)
 
--- the groups that a text begins with, and white space after them
-fill_row : (held block bytes : List ℕ) (m k : ℕ) → 4 * m + k ≤ length block
-    → list_all is_symbol (take (4 * m) block) ≡ true → list_all is_ascii_whitespace (take k (drop (4 * m) block)) ≡ true
-    → bytes ≡ groups (map symbol_value (take (4 * m) block)) → Fills held (take (4 * m + k) block) (held ++ bytes)
-fill_row held block bytes m k within all spaces is =
-    let q = take (4 * m) block in
-    let only = spaces_only (take k (drop (4 * m) block)) spaces in
-    let size : length q ≡ 4 * m = length-take-le (4 * m) block (omega arith) in
-    let alone : filter is_symbol q ≡ q = filter_all is_symbol q (every_list_all q all) in
-    let symbols : filter is_symbol (take (4 * m + k) block) ≡ q =
-    cc (take-add (4 * m) k block, filter-append is_symbol q (take k (drop (4 * m) block)), append-nil q) in
-    record {
-      whole = record {
-        spaced = cc (
-          take-add (4 * m) k block,
-          list_all-append is_symbol_or_space q (take k (drop (4 * m) block)),
-          symbols_alone q all,
-        );
-        whole = omega (arith, ap length symbols);
-      };
-      held_are = cc (is, symbols);
-    }
+-- what a filter keeps passes
+symbols_kept : (t : List ℕ) → list_all is_symbol (filter is_symbol t) ≡ true
+symbols_kept [] = refl
+symbols_kept (c ∷ t) = grind (arith, symbols_kept t)
 
--- the groups that a text begins with, and white space after them, if its first row was decoded and put after n bytes
-pub row_fills : (old new decoded row text : List ℕ) (n m k : ℕ) → n + 16 ≤ length old
-    → take (n + 16) new ≡ take n old ++ decoded → DecodesFront row decoded → row ≡ take 16 text → m ≤ 4
-    → 4 * m + k ≤ length text → list_all is_symbol (take (4 * m) text) ≡ true
-    → list_all is_ascii_whitespace (take k (drop (4 * m) text)) ≡ true
-    → Fills (take n old) (take (4 * m + k) text) (take (n + 3 * m) new)
-row_fills old new decoded row text n m k room put decodes is few within all spaces =
+-- a text of whole groups and white space, if its symbols are those that a row begins with, and the row was decoded and
+-- put after n bytes
+pub row_fills : (old new bytes row text : List ℕ) (n m : ℕ) → n + 16 ≤ length old
+    → take (n + 16) new ≡ take n old ++ bytes → DecodesFront row bytes → m ≤ 4 → 4 * m ≤ length row
+    → list_all is_symbol_or_space text ≡ true → filter is_symbol text ≡ take (4 * m) row
+    → Fills (take n old) text (take (n + 3 * m) new)
+row_fills old new bytes row text n m room put decodes few long spaced symbols =
     let held = take n old in
     let size : n + 3 * m ≡ length held + 3 * m = omega (arith, length-take-le n old (omega arith)) in
-    let front : take (4 * m) row ≡ take (4 * m) text = ap (take (4 * m)) is ∙ take-take (4 * m) 16 text (omega arith) in
-    let bytes = decodes m few (ap (list_all is_symbol) front ∙ all) in
-    let e : take (n + 3 * m) new ≡ held ++ take (3 * m) decoded = cc (
-      take-take (n + 3 * m) (n + 16) new (omega arith),
-      take-append-add held decoded (3 * m),
-    ) in
-    rw e (fill_row held text (take (3 * m) decoded) m k within all spaces (cc (bytes, front)))
+    let are = decodes m few (ap (list_all is_symbol) (sym symbols) ∙ symbols_kept text) in
+    record {
+      whole = record {
+        spaced = spaced;
+        whole = omega (arith, ap length symbols, length-take-le (4 * m) row long);
+      };
+      held_are = cc (
+        take-take (n + 3 * m) (n + 16) new (omega arith),
+        put,
+        size,
+        take-append-add held bytes (3 * m),
+        are,
+        symbols,
+      );
+    }
+
+-- one more byte, which is a symbol or white space: a symbol is put after the first n
+pub gathers : (text symbols : List ℕ) (at n k : ℕ) (is : Bool) → at < length text → n < length symbols
+    → is ≡ is_symbol (get_or text at 0) → k ≡ bool_byte is → take n symbols ≡ filter is_symbol (take at text)
+    → (k ≤ 1) × (take (n + k) (set symbols n (get_or text at 0)) ≡ filter is_symbol (take (at + 1) text))
+gathers text symbols at n k true inside room kind e same =
+    let more = take_more text at 0 inside in
+    (omega (arith, e), grind (arith, more, filter-append, take_more_set))
+gathers text symbols at n k false inside room kind e same =
+    let more = take_more text at 0 inside in
+    (omega (arith, e), grind (arith, more, filter-append, take-set, append-nil))
 
 -- no bytes are read
 pub fills_nothing : (held : List ℕ) → Fills held [] held
 unfolding groups
 fills_nothing held = grind (arith, append-nil)
+
+-- no bytes have no groups
+pub fills_none : {held held' : List ℕ} (text : List ℕ) (n : ℕ) → n ≡ 0 → Fills held (take n text) held' → held' ≡ held
+unfolding groups
+fills_none text zero e f = grind (arith, append-nil)
+fills_none text (suc n) e f = absurd (omega arith)
 
 -- a text fills held to h1, and then another fills h1 to h2
 fills_then : {held h1 h2 : List ℕ} (a b : List ℕ) → Fills held a h1 → Fills h1 b h2 → Fills held (a ++ b) h2
@@ -155,6 +164,45 @@ leaves_then {rest = rest} n l f = rw (take_rest rest n) (record {
   text_is = cc (l.text_is, append_assoc l.front (take n rest) (drop n rest), take-append-drop n rest);
   fills = fills_then l.front (take n rest) l.fills f;
 })
+
+-- the symbols of the groups that a text begins with, and of white space after them, are those of its first row
+front_symbols : (row text : List ℕ) (m k : ℕ) → row ≡ take 16 text → m ≤ 4
+    → list_all is_symbol (take (4 * m) row) ≡ true → list_all is_ascii_whitespace (take k (drop (4 * m) text)) ≡ true
+    → (list_all is_symbol_or_space (take (4 * m + k) text) ≡ true)
+    × (filter is_symbol (take (4 * m + k) text) ≡ take (4 * m) row)
+front_symbols row text m k is few all spaces =
+    let q = take (4 * m) text in
+    let only = spaces_only (take k (drop (4 * m) text)) spaces in
+    let front : take (4 * m) row ≡ q = ap (take (4 * m)) is ∙ take-take (4 * m) 16 text (omega arith) in
+    let each = sym (ap (list_all is_symbol) front) ∙ all in
+    let alone : filter is_symbol q ≡ q = filter_all is_symbol q (every_list_all q each) in (
+      cc (
+        take-add (4 * m) k text,
+        list_all-append is_symbol_or_space q (take k (drop (4 * m) text)),
+        symbols_alone q each,
+        only.1,
+      ),
+      cc (
+        take-add (4 * m) k text,
+        filter-append is_symbol q (take k (drop (4 * m) text)),
+        append-nil q,
+        only.0,
+        alone,
+        front,
+      ),
+    )
+
+-- the groups that the rest begins with are read, and white space after them, if its first row was decoded and put after
+-- n bytes
+pub row_leaves : {held text rest : List ℕ} (old new bytes row : List ℕ) (n m k : ℕ)
+    → Leaves held text rest (take n old) → n + 16 ≤ length old → row ≡ take 16 rest → 16 ≤ length rest
+    → take (n + 16) new ≡ take n old ++ bytes → DecodesFront row bytes → m ≤ 4
+    → list_all is_symbol (take (4 * m) row) ≡ true → list_all is_ascii_whitespace (take k (drop (4 * m) rest)) ≡ true
+    → Leaves held text (take (length rest - (4 * m + k)) (drop (4 * m + k) rest)) (take (n + 3 * m) new)
+row_leaves {rest = rest} old new bytes row n m k before room is long put decodes few all spaces =
+    let front = front_symbols row rest m k is few all spaces in
+    let size : 4 * m ≤ length row = omega (arith, ap length is, length-take-le 16 rest long) in
+    leaves_then (4 * m + k) before (row_fills old new bytes row _ n m room put decodes few size front.0 front.1)
 
 -- all that was read
 pub leaves_read : {held text rest held' : List ℕ} → Leaves held text rest held'

@@ -4,31 +4,37 @@ use Rattle.std.proofs.Common.{append_assoc, length-take-le, length, take, Fits, 
 use Rattle.std.proofs.Common.{◌/◌, ◌%◌, ◌^◌, Bool, not, refl, sym, ◌∙◌, ap₂, arith, suc, zero, ext_get_or, take_all}
 use Rattle.std.proofs.Common.{get_or-take, subst}
 use Rattle.std.{proofs.Common.{◌≤◌, ◌&&◌, drop, bit_or}, proofs.lemmas.List.Folds.{list_all-append}}
-use Rattle.std.{proofs.Math.Bool.{and-true, and_assoc}, specs.List.{range_with_len, list_all}}
-use Rattle.std.proofs.lemmas.Bool.{agree_below_at, and_parts, cond-true, eqb-true, ltb-true, cases_eq, ne_eqb}
+use Rattle.std.{proofs.Math.Bool.{and_assoc}, specs.List.{range_with_len, list_all}}
+use Rattle.std.proofs.lemmas.Bool.{agree_below_at, and_parts, eqb-true, ltb-true, cases_eq, ne_eqb}
 use Rattle.std.proofs.lemmas.List.{get_or-map, length-map, map-append, nil_from_length, take-map}
-use Rattle.std.{proofs.lemmas.Nat.{and_le_r, and_le_l, mod-pow-add, or_lt}, proofs.lemmas.Simd.{length-swz_l, pick_l_whole, swz_l}}
-use Rattle.std.proofs.lemmas.Simd.{SwzOk-from_below, get_or_narrower, bitmask_splat, chunk-fits, mask_l-lt}
-use Rattle.std.proofs.lemmas.Simd.{zip2_of_maps, Each1-get_or, SwzOk, length-zip2, map-map, get_or-swz_l_below}
+use Rattle.std.proofs.lemmas.Nat.{and_le_r, and_le_l, mod-pow-add}
+use Rattle.std.proofs.lemmas.Simd.{length-swz_l, pick_l_whole, swz_l}
+use Rattle.std.proofs.lemmas.Simd.{SwzOk-from_below, get_or_narrower, bitmask_splat}
+use Rattle.std.proofs.lemmas.Simd.{zip2_of_maps, Each1-get_or, SwzOk, map-map, get_or-swz_l_below}
 use Rattle.std.specs.Char.{is_ascii_whitespace as std_whitespace, is_ascii_whitespace}
 use Rattle.data_url.specs.Base64.{is_symbol, symbol_value, group_bytes, group_number, groups, after_groups}
-use Rattle.data_url.specs.Steps.Lanes.{DecodesFront, mark_of, numbers, value_of}
-use Rattle.data_url.specs.declared.forgiving_base64.alphabet.TheConstants.{NO_SYMBOL, VALUES}
+use Rattle.data_url.specs.Steps.{Groups.{is_symbol_or_space}, Lanes.{DecodesFront, mark_of, numbers, value_of}}
+use Rattle.data_url.specs.declared.forgiving_base64.alphabet.TheConstants.{VALUES}
 use Rattle.data_url.proofs.forgiving_base64.Padding.{groups-append, length-after_groups}
 use lib.Bits.{or_add_and}
-use lib.Lanes.{Each1, digits_l, fold_l, number_l, pair_sums, pick_l, products, sel_l, zip2, mask_l, top}
+use lib.Lanes.{Each1, digits_l, number_l, pair_sums, pick_l, products, sel_l, zip2, mask_l, top}
 
 -- The table of symbols is the alphabet.
 
 -- the entry of a symbol is its value
 pub entry_symbol : (b : ℕ) → b < 256 → is_symbol b ≡ true → get_or VALUES b 0 ≡ symbol_value b
-entry_symbol b l h = eqb-true (get_or VALUES b 0) (cond (is_symbol b) (symbol_value b) NO_SYMBOL) (agree_below_at
-    (λ b. eqb (get_or VALUES b 0) (cond (is_symbol b) (symbol_value b) NO_SYMBOL)) (λ b. true) 256 b refl l)
-    ∙ cond-true (is_symbol b) (symbol_value b) NO_SYMBOL h
+entry_symbol b l h =
+    let agrees = λ (b : ℕ). cond (is_symbol b) (eqb (get_or VALUES b 0) (symbol_value b)) true in
+    let same = agree_below_at agrees (λ b. true) 256 b refl l in
+    grind (arith, eqb-true (get_or VALUES b 0) (symbol_value b))
 
 -- an entry is below the mark exactly at a symbol
 pub symbol_is : (b : ℕ) → b < 256 → ltb (get_or VALUES b 0) 64 ≡ is_symbol b
 symbol_is b l = agree_below_at (λ b. ltb (get_or VALUES b 0) 64) is_symbol 256 b refl l
+
+-- an entry is the mark exactly at a byte that is neither a symbol nor white space
+pub symbol_or_space_is : (b : ℕ) → b < 256 → not (eqb (get_or VALUES b 0) 64) ≡ is_symbol_or_space b
+symbol_or_space_is b l = agree_below_at (λ b. not (eqb (get_or VALUES b 0) 64)) is_symbol_or_space 256 b refl l
 
 -- the standard library's class of white space is that of forgiving base64
 pub space_is : (b : ℕ) → b < 256 → std_whitespace b ≡ is_ascii_whitespace b
@@ -294,43 +300,30 @@ split_block text = grind (arith, take-add 48 16 text, take-add 32 16 text, take-
 abbrev pub others_mask : List ℕ → ℕ
 others_mask v = mask_l (map is_other v)
 
--- the mask of 16 bytes is below 65536
-pub mask_lt : (v : List ℕ) → length v ≡ 16 → others_mask v < 65536
-mask_lt v long = grind (arith, length-map, mask_l-lt)
-
 -- if the mask is a multiple of 2 ^ k, the first k bytes are symbols
-pub front_of_mask : (k : ℕ) (v : List ℕ) → others_mask v % 2 ^ k ≡ 0 → list_all is_symbol (take k v) ≡ true
-front_of_mask zero v e = refl
-front_of_mask (suc k) [] e = refl
-front_of_mask (suc k) (x ∷ v) e = grind (arith, front_of_mask k v, mod-pow-add (others_mask (x ∷ v)) k 1)
+pub front_of_mask : (k : ℕ) (v : List ℕ) {mask : ℕ} → mask ≡ others_mask v → mask % 2 ^ k ≡ 0
+    → list_all is_symbol (take k v) ≡ true
+front_of_mask zero v is e = refl
+front_of_mask (suc k) [] is e = refl
+front_of_mask (suc k) (x ∷ v) is e =
+    grind (arith, front_of_mask k v {mask = others_mask v} refl, mod-pow-add (others_mask (x ∷ v)) k 1)
 
--- No mark in four rows
+-- the mask is zero exactly if all bytes are symbols
+mask_zero : (v : List ℕ) → eqb (others_mask v) 0 ≡ list_all is_symbol v
+mask_zero [] = refl
+mask_zero (x ∷ v) = grind (arith, mask_zero v, cases_eq, ne_eqb)
 
--- whether a mark is zero
-abbrev unmarked : ℕ → Bool
-unmarked m = eqb m 0
+-- the bitwise or of two numbers is zero exactly if both are zero
+or_zero : (x y : ℕ) → eqb (bit_or x y) 0 ≡ (eqb x 0 && eqb y 0)
+or_zero x y = grind (arith, cases_eq, ne_eqb, or_add_and, and_le_l, and_le_r)
 
--- the bitwise or of two bytes is zero exactly if both are zero
-or_unmarked : (x y : ℕ) → x < 256 → y < 256 → unmarked (bit_or x y) ≡ (unmarked x && unmarked y)
-or_unmarked x y a b = grind (arith, cases_eq, ne_eqb, or_add_and, and_le_l, and_le_r)
-
--- the bitwise or of a byte and all bytes of a list is zero exactly if all of them are zero
-or_all : (a : ℕ) (xs : List ℕ) → a < 256 → Each1 (λ x. x < 256) xs
-    → eqb (fold_l bit_or a xs) 0 ≡ (unmarked a && list_all unmarked xs)
-or_all a [] l h = sym (and-true (unmarked a))
-or_all a (x ∷ xs) l h = grind (arith, or_lt, or_unmarked, and_assoc, or_all (bit_or a x) xs (or_lt 8 a x l h.0) h.1)
-
--- the bitwise or of the bytes of a list is zero exactly if all of them are zero
-or_none : (xs : List ℕ) → Each1 (λ x. x < 256) xs → eqb (fold_l bit_or 0 xs) 0 ≡ list_all unmarked xs
-or_none xs h = or_all 0 xs (omega arith) h
-
--- the items of a bitwise or of two lists of bytes are all zero exactly if the items of both lists are
-unmarked_or : (xs ys : List ℕ) → length xs ≡ length ys → Each1 (λ x. x < 256) xs → Each1 (λ x. x < 256) ys
-    → list_all unmarked (zip2 bit_or xs ys) ≡ (list_all unmarked xs && list_all unmarked ys)
-unmarked_or [] [] e f g = refl
-unmarked_or [] (y ∷ ys) e f g = absurd (omega arith)
-unmarked_or (x ∷ xs) [] e f g = absurd (omega arith)
-unmarked_or (x ∷ xs) (y ∷ ys) e f g = grind (arith, or_unmarked, unmarked_or xs ys (omega arith) f.1 g.1)
+-- the bitwise or of the masks of four rows is zero exactly if the 64 bytes are symbols
+pub whole_is : (text r0 r1 r2 r3 : List ℕ) {m0 m1 m2 m3 : ℕ} → r0 ≡ take 16 (drop 0 text) → r1 ≡ take 16 (drop 16 text)
+    → r2 ≡ take 16 (drop 32 text) → r3 ≡ take 16 (drop 48 text) → m0 ≡ others_mask r0 → m1 ≡ others_mask r1
+    → m2 ≡ others_mask r2 → m3 ≡ others_mask r3
+    → eqb (bit_or (bit_or m0 m1) (bit_or m2 m3)) 0 ≡ list_all is_symbol (take 64 text)
+whole_is text r0 r1 r2 r3 {m0} {m1} {m2} {m3} a b c d p q r s =
+    grind (arith, or_zero, mask_zero, split_block text, list_all-append, and_assoc)
 
 -- Groups of rows
 
@@ -338,57 +331,6 @@ unmarked_or (x ∷ xs) (y ∷ ys) e f g = grind (arith, or_unmarked, unmarked_or
 pub groups_whole : (x y : List ℕ) → length x % 4 ≡ 0 → groups (x ++ y) ≡ groups x ++ groups y
 groups_whole x y h = groups-append x y
     ∙ ap (λ z. groups x ++ groups (z ++ y)) (nil_from_length (after_groups x) (length-after_groups x ∙ h))
-
--- A whole block
-
--- the marks of bytes are below 256
-marks_lt : (v : List ℕ) → Each1 (Fits w8) v → Each1 (λ x. x < 256) (map mark_of v)
-marks_lt = each_map (Fits w8) (λ x. x < 256) mark_of
-    (λ b h. ltb-true (mark_of b) 256 (agree_below_at (λ b. ltb (mark_of b) 256) (λ b. true) 256 b refl h.fits))
-
--- the marks of all bytes of a list are zero exactly if all bytes are symbols
-all_unmarked : (v : List ℕ) → Each1 (Fits w8) v → list_all unmarked (map mark_of v) ≡ list_all is_symbol v
-all_unmarked [] h = refl
-all_unmarked (b ∷ v) h =
-    grind (arith, agree_below_at (λ b. unmarked (mark_of b)) is_symbol 256 b refl h.0.fits, all_unmarked v h.1)
-
--- the bitwise or of the marks of bytes is zero exactly if all bytes are symbols
-pub are_symbols_is : (v marks : List ℕ) → Each1 (Fits w8) v → marks ≡ map mark_of v
-    → eqb (fold_l bit_or 0 marks) 0 ≡ list_all is_symbol v
-are_symbols_is v marks fits e = grind (arith, fold_l, or_none, marks_lt, all_unmarked)
-
--- the items of a bitwise or of two lists of bytes are below 256
-zip_lt : (xs ys : List ℕ) → length xs ≡ length ys → Each1 (λ x. x < 256) xs → Each1 (λ x. x < 256) ys
-    → Each1 (λ x. x < 256) (zip2 bit_or xs ys)
-zip_lt [] ys e f g = tt
-zip_lt (x ∷ xs) [] e f g = tt
-zip_lt (x ∷ xs) (y ∷ ys) e f g = (or_lt 8 x y f.0 g.0, zip_lt xs ys (omega arith) f.1 g.1)
-
--- the marks of four rows, combined by a bitwise or
-abbrev pub all_marks : List ℕ → List ℕ → List ℕ → List ℕ → List ℕ
-all_marks a b c d = zip2 bit_or (zip2 bit_or a b) (zip2 bit_or c d)
-
--- the marks of four rows, combined by a bitwise or, are all zero exactly if all bytes of the rows are symbols
-marks_whole : (r0 r1 r2 r3 : List ℕ) → length r0 ≡ 16 → length r1 ≡ 16 → length r2 ≡ 16 → length r3 ≡ 16
-    → Each1 (Fits w8) r0 → Each1 (Fits w8) r1 → Each1 (Fits w8) r2 → Each1 (Fits w8) r3
-    → eqb (fold_l bit_or 0 (all_marks (map mark_of r0) (map mark_of r1) (map mark_of r2) (map mark_of r3))) 0
-    ≡ list_all is_symbol (r0 ++ (r1 ++ (r2 ++ r3)))
-marks_whole r0 r1 r2 r3 l0 l1 l2 l3 f0 f1 f2 f3 =
-    search (arith, or_none, length-map, length-zip2, unmarked_or, zip_lt, marks_lt, all_unmarked, list_all-append)
-
--- the combined marks of four rows are all zero exactly if the 64 bytes are symbols
-pub whole_is : (text m0 m1 m2 m3 r0 r1 r2 r3 : List ℕ) → 64 ≤ length text → ((i : ℕ) → Fits w8 (get_or text i 0))
-    → r0 ≡ take 16 (drop 0 text) → r1 ≡ take 16 (drop 16 text) → r2 ≡ take 16 (drop 32 text)
-    → r3 ≡ take 16 (drop 48 text)
-    → m0 ≡ map mark_of r0 → m1 ≡ map mark_of r1 → m2 ≡ map mark_of r2 → m3 ≡ map mark_of r3
-    → eqb (fold_l bit_or 0 (all_marks m0 m1 m2 m3)) 0 ≡ list_all is_symbol (take 64 text)
-whole_is text m0 m1 m2 m3 r0 r1 r2 r3 long fits a b c d p q r s =
-    let size = row_length text in
-    let fit = λ (at : ℕ). chunk-fits w8 at 16 text fits in
-    let row = λ (at : ℕ). take 16 (drop at text) in
-    let whole = marks_whole (row 0) (row 16) (row 32) (row 48) (size 0 (omega arith)) (size 16 (omega arith))
-    (size 32 (omega arith)) (size 48 (omega arith)) (fit 0) (fit 16) (fit 32) (fit 48) in
-    cc (a, b, c, d, p, q, r, s, split_block text, whole)
 
 -- Sixteen groups
 

@@ -2,19 +2,19 @@
 //! in rows of sixteen bytes.
 
 ghost use Rattle.std.specs.Prelude.{◌≡◌, IsTrue, length, map};
-ghost use Rattle.std.specs.List.{list_all};
 ghost use Rattle.data_url.specs.Base64.{group_bytes, group_number, is_symbol, symbol_value};
+ghost use Rattle.data_url.specs.Steps.Groups.{is_symbol_or_space};
 ghost use Rattle.data_url.specs.Steps.Lanes.{DecodesFront, mark_of, numbers, value_of};
 
 use std::simd::prelude::*;
 
-/// The entry of the table for a byte that is not a symbol.
-const NO_SYMBOL: u8 = 64;
+/// The entry of the table for a byte that is neither a symbol nor white space. That of white space is 65.
+const OTHER: u8 = 64;
 
 /// The value of each symbol, by its byte.
 const VALUES: [u8; 256] = [
-    64, 64, 64, 64, 64, 64, 64, 64, 64, 64, 64, 64, 64, 64, 64, 64, 64, 64, 64, 64, 64, 64, 64, 64,
-    64, 64, 64, 64, 64, 64, 64, 64, 64, 64, 64, 64, 64, 64, 64, 64, 64, 64, 64, 62, 64, 64, 64, 63,
+    64, 64, 64, 64, 64, 64, 64, 64, 64, 65, 65, 64, 65, 65, 64, 64, 64, 64, 64, 64, 64, 64, 64, 64,
+    64, 64, 64, 64, 64, 64, 64, 64, 65, 64, 64, 64, 64, 64, 64, 64, 64, 64, 64, 62, 64, 64, 64, 63,
     52, 53, 54, 55, 56, 57, 58, 59, 60, 61, 64, 64, 64, 64, 64, 64, 64, 0, 1, 2, 3, 4, 5, 6, 7, 8,
     9, 10, 11, 12, 13, 14, 15, 16, 17, 18, 19, 20, 21, 22, 23, 24, 25, 64, 64, 64, 64, 64, 64, 26,
     27, 28, 29, 30, 31, 32, 33, 34, 35, 36, 37, 38, 39, 40, 41, 42, 43, 44, 45, 46, 47, 48, 49, 50,
@@ -47,7 +47,14 @@ const LOWER_WEIGHTS: [u8; 16] = [0, 0, 64, 1, 0, 0, 64, 1, 0, 0, 64, 1, 0, 0, 64
 pub(crate) fn is_symbol(byte: u8) -> bool
     ensures { result ≡ is_symbol byte }
 {
-    VALUES[byte as usize] < NO_SYMBOL
+    VALUES[byte as usize] < OTHER
+}
+
+/// Whether a byte is a symbol or white space.
+pub(crate) fn is_symbol_or_space(byte: u8) -> bool
+    ensures { result ≡ is_symbol_or_space byte }
+{
+    VALUES[byte as usize] != OTHER
 }
 
 /// The three bytes of a group of four symbols.
@@ -77,14 +84,6 @@ pub(crate) fn marks_of(bytes: u8x16) -> u8x16
     let low = u8x16::from_array(LOW_HALVES).swizzle_dyn(bytes & u8x16::splat(15));
     let high = u8x16::from_array(HIGH_HALVES).swizzle_dyn(bytes >> u8x16::splat(4));
     low & high
-}
-
-/// Whether all bytes of a row are symbols.
-#[inline(always)]
-pub(crate) fn are_symbols(bytes: u8x16) -> bool
-    ensures { result ≡ list_all is_symbol bytes }
-{
-    marks_of(bytes).reduce_or() == 0
 }
 
 /// The value of each symbol. A byte that is no symbol has some value too.

@@ -1,7 +1,7 @@
 //! Blocks of 64 bytes of a text of base64 (RFC 4648, section 4), as four rows of sixteen.
 
-ghost use Rattle.std.specs.Prelude.{◌≡◌, ◌*◌, ◌+◌, IsTrue, ◌<◌, ◌≤◌, ◌++◌, drop, length, map, not, take};
-ghost use Rattle.std.specs.List.{list_all, prefix_len};
+ghost use Rattle.std.specs.Prelude.{◌≡◌, ◌*◌, ◌+◌, IsTrue, ◌≤◌, ◌++◌, drop, length, map, not, take};
+ghost use Rattle.std.specs.List.{list_all};
 ghost use Rattle.std.specs.Simd.Lanes.{mask_l};
 ghost use Rattle.data_url.specs.Base64.{groups, is_symbol, symbol_value};
 
@@ -23,27 +23,27 @@ pub(crate) fn is_whole(text: &[u8]) -> bool
     requires { 64 ≤ length text.now }
     ensures { result ≡ list_all is_symbol (take 64 text.now) }
 {
-    let upper = marks_of(row(text, 0)) | marks_of(row(text, 16));
-    let lower = marks_of(row(text, 32)) | marks_of(row(text, 48));
-    (upper | lower).reduce_or() == 0
+    let upper = others(row(text, 0)) | others(row(text, 16));
+    let lower = others(row(text, 32)) | others(row(text, 48));
+    upper | lower == 0
 }
 
 /// A bit for each byte of a row, which is set if the byte is not a symbol.
 #[inline(always)]
 fn others(bytes: u8x16) -> u64
-    ensures few { result < 65536 }
-    ensures mask { result ≡ mask_l (map (λ b. not (is_symbol b)) bytes) }
+    ensures { result ≡ mask_l (map (λ b. not (is_symbol b)) bytes) }
 {
     marks_of(bytes).simd_ne(u8x16::splat(0)).to_bitmask()
 }
 
-/// Returns how many whole groups of symbols a row begins with, up to three. The most frequent numbers come first.
+/// Returns how many whole groups of symbols a row begins with. The most frequent numbers come first.
 #[inline(always)]
 pub(crate) fn groups_ahead(bytes: u8x16) -> usize
-    ensures few { result ≤ 3 }
+    ensures few { result ≤ 4 }
     ensures symbols { IsTrue (list_all is_symbol (take (4 * result) bytes)) }
 {
     match others(bytes) {
+        0 => 4,
         mask if mask % 16 != 0 => 0,
         mask if mask % 4096 == 0 => 3,
         mask if mask % 256 == 0 => 2,

@@ -1,6 +1,6 @@
 //! Decoding piece by piece (Infra Standard, forgiving-base64 decode).
 
-ghost use Rattle.std.specs.Prelude.{◌≡◌, ◌%◌, ◌<◌, ◌≤◌, [], ◌∷◌, Err, IfOk, IsTrue, MatchResult, None, length, map, slice_index, take, true, false};
+ghost use Rattle.std.specs.Prelude.{◌≡◌, ◌%◌, ◌<◌, ◌≤◌, [], Err, IsTrue, MatchResult, length, slice_index, take, true, false};
 ghost use Rattle.std.specs.List.{list_all};
 ghost use Rattle.data_url.specs.Base64.{is_symbol};
 
@@ -101,9 +101,7 @@ where
     F: FnMut(&[u8]) -> Result<(), E>,
 {
     ghost use Rattle.std.specs.Fn.{CalledAt};
-    ghost use Rattle.data_url.specs.Decoder.{Feeds, Finishes, left_over, start, state_of};
-    ghost use Rattle.data_url.specs.Base64.{decoded, groups, symbol_value};
-    ghost use Rattle.data_url.specs.Facts.{Fits};
+    ghost use Rattle.data_url.specs.Decoder.{Feeds, Finishes, start, state_of};
     ghost use Rattle.data_url.specs.Steps.Holding.{CallsOnce, Flushes, Reads};
 
     /// Returns a decoder that has been fed nothing yet. The closure has to accept any bytes, whatever it was called
@@ -145,13 +143,9 @@ where
         ensures callable { F.IsAlwaysCallable (state_of self.new).closure }
         ensures called { CallsOnce (CalledAt F.FnMut) (state_of self.old) piece.now result (state_of self.new) }
     {
-        match (self.write_bytes)(piece) {
-            Ok(()) => Ok(()),
-            Err(error) => {
-                self.failed = true;
-                Err(DecodeError::WriteError(error))
-            }
-        }
+        let answer = (self.write_bytes)(piece);
+        self.failed = answer.is_err();
+        answer.map_err(DecodeError::WriteError)
     }
 
     /// Calls the closure with the bytes of groups, in pieces of up to 48 bytes.

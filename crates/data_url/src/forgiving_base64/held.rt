@@ -2,14 +2,13 @@
 
 ghost use Rattle.std.specs.Prelude.{◌≡◌, ◌%◌, ◌+◌, ◌≤◌, ◌<◌, ◌++◌, [], drop, length, take};
 ghost use Rattle.std.specs.Char.{is_ascii_whitespace};
-ghost use Rattle.std.specs.List.{list_all, prefix_len};
-ghost use Rattle.data_url.specs.Base64.{is_symbol};
+ghost use Rattle.std.specs.List.{prefix_len};
 
-use super::alphabet::{are_symbols, decode_row, group_of, is_symbol};
+use super::alphabet::{decode_row, group_of, is_symbol, is_symbol_or_space};
 use super::blocks::{groups_ahead, put, row};
 
-/// How many bytes of groups are held before the closure is called with them: those of 64 groups. With one piece, 16 groups,
-/// lines of 76 symbols take a fifth longer.
+/// How many bytes of groups are held before the closure is called with them: those of 64 groups. With one piece, 16
+/// groups, lines of 76 symbols take a fifth longer.
 pub(crate) const FULL: usize = 192;
 
 /// The bytes of up to 64 groups, and of up to three groups of the row that was added last.
@@ -84,31 +83,31 @@ impl HeldGroups {
     #[inline(always)]
     pub(crate) fn fill(&mut self, text: &[u8]) -> usize
         requires room { self.old.len < 192 }
-        ensures none { result ≡ 0 → self.new.len ≡ self.old.len }
         ensures within { result ≤ length text.now }
         ensures fills { Fills (held_bytes self.old) (take result text.now) (held_bytes self.new) }
     {
-        if text.len() < 4
-            || !is_symbol(text[0])
-            || !is_symbol(text[1])
-            || !is_symbol(text[2])
-            || !is_symbol(text[3])
-        {
+        if text.len() >= 16 {
+            let taken = self.fill_rows(text);
+            if taken > 0 {
+                return taken;
+            }
+            return self.fill_spaced(text);
+        }
+        if text.len() < 4 || !is_symbol(text[0]) || !is_symbol(text[1]) {
             return 0;
         }
-        if text.len() >= 16 {
-            return self.fill_rows(text);
+        if !is_symbol(text[2]) || !is_symbol(text[3]) {
+            return 0;
         }
         self.push(group_of(text[0], text[1], text[2], text[3]));
         4
     }
 
-    /// Adds whole groups that a text begins with, as long as there is a row of sixteen bytes. White space after the groups
-    /// of a row is skipped. Returns how many bytes of the text these take.
+    /// Adds whole groups that a text begins with, as long as there is a row of sixteen bytes. White space after the
+    /// groups of a row is skipped. Returns how many bytes of the text these take.
     #[inline(never)]
     fn fill_rows(&mut self, text: &[u8]) -> usize
         requires room { self.old.len < 192 }
-        ensures none { result ≡ 0 → self.new.len ≡ self.old.len }
         ensures within { result ≤ length text.now }
         ensures fills { Fills (held_bytes self.old) (take result text.now) (held_bytes self.new) }
     {
@@ -117,11 +116,11 @@ impl HeldGroups {
         while rest.len() >= 16 && len < FULL {
             let row = row(rest, 0);
             put(&mut self.bytes, len, decode_row(row));
-            if are_symbols(row) {
+            let ahead = groups_ahead(row);
+            if ahead == 4 {
                 len += 12;
                 rest = &rest[16..];
             } else {
-                let ahead = groups_ahead(row);
                 let taken = 4 * ahead + spaces_len(&rest[4 * ahead..]);
                 if taken == 0 {
                     break;
@@ -132,5 +131,29 @@ impl HeldGroups {
         }
         self.len = len;
         text.len() - rest.len()
+    }
+
+    /// Adds the groups of the first sixteen symbols of a text, without the white space between them. Returns how many
+    /// bytes of the text these take, or 0 if there are fewer before the end or another byte.
+    #[inline(never)]
+    fn fill_spaced(&mut self, text: &[u8]) -> usize
+        requires room { self.old.len < 192 }
+        ensures within { result ≤ length text.now }
+        ensures fills { Fills (held_bytes self.old) (take result text.now) (held_bytes self.new) }
+    {
+        let mut symbols = [0; 16];
+        let mut count = 0;
+        let mut at = 0;
+        while count < 16 {
+            if at == text.len() || !is_symbol_or_space(text[at]) {
+                return 0;
+            }
+            symbols[count] = text[at];
+            count += usize::from(is_symbol(text[at]));
+            at += 1;
+        }
+        put(&mut self.bytes, self.len, decode_row(row(&symbols, 0)));
+        self.len += 12;
+        at
     }
 }

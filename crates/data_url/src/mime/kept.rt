@@ -51,11 +51,8 @@ impl KeptParameters {
             ++ unless_named (pairs_of self.old) ((code_points name, code_points value) ∷ [])) }
         ensures indexed { OnOk result (IsIndexed self.new) }
     {
-        if self.pairs.len() < LOOKED_THROUGH {
-            self.pairs.push((name, value))?;
-            return Ok(());
-        }
-        if !self.later_names.insert(name.clone()?)? {
+        let is_later = self.pairs.len() >= LOOKED_THROUGH;
+        if is_later && !self.later_names.insert(name.clone()?)? {
             return Ok(());
         }
         self.pairs.push((name, value))?;
@@ -73,8 +70,5 @@ fn is_named(key: &str, name: &str, last: u8) -> bool
     ensures { Decides result (map to_ascii_lowercase key.now ≡ map to_ascii_lowercase name.now) }
 {
     let len = key.len();
-    if len != name.len() || key.as_bytes()[len - 1] != last {
-        return false;
-    }
-    key.eq_ignore_ascii_case(name)
+    len == name.len() && key.as_bytes()[len - 1] == last && key.eq_ignore_ascii_case(name)
 }

@@ -2,5 +2,5 @@ use Rattle.data_url.proofs.forgiving_base64.Vectors.{whole_is}
 use Rattle.data_url.proofs.forgiving_base64.blocks.is_whole.Goals as goal
 
 pub returns : goal.returns
-returns c = whole_is c.args.text.now _ _ _ _ _ _ _ _ c.requires c.type_inv.text c.row.ensures c.row-2.ensures
-    c.row-3.ensures c.row-4.ensures c.marks_of.ensures c.marks_of-2.ensures c.marks_of-3.ensures c.marks_of-4.ensures
+returns c = whole_is c.args.text.now _ _ _ _ c.row.ensures c.row-2.ensures c.row-3.ensures c.row-4.ensures
+    c.others.ensures c.others-2.ensures c.others-3.ensures c.others-4.ensures

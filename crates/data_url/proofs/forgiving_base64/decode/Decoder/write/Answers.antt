@@ -1,22 +1,12 @@
-use Rattle.std.proofs.Common.{Ok, Err, refl}
+use Rattle.std.proofs.Common.{◌∙◌, refl, rules}
 use Rattle.data_url.proofs.forgiving_base64.decode.Decoder.write.Goals as goal
 
-pub returns-in-Ok-clause-called : goal.returns-in-Ok-clause-called
-returns-in-Ok-clause-called g c = record {
-  told = Ok tt;
-  called = record { shown = c.args.piece; shows = refl; called = c.in-Ok.ensures };
-  answer = refl;
-  failed = c.requires.going;
-  symbols_stay = refl;
-  padding_stays = refl;
-}
-
-pub returns-in-Err-clause-called : goal.returns-in-Err-clause-called
-returns-in-Err-clause-called g c = record {
-  told = Err c.in-Err.error;
-  called = record { shown = c.args.piece; shows = refl; called = c.in-Err.ensures };
-  answer = refl;
-  failed = refl;
+pub returns-clause-called : goal.returns-clause-called
+returns-clause-called g c = record {
+  told = c.write_bytes-answer.result;
+  called = record { shown = c.args.piece; shows = refl; called = c.write_bytes-answer.ensures };
+  answer = search rules;
+  failed = c.is_err-self.ensures.value ∙ search rules;
   symbols_stay = refl;
   padding_stays = refl;
 }

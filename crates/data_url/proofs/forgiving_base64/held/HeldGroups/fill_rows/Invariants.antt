@@ -8,7 +8,6 @@ abbrev pub invariant-loop-rest : goal.invariant-loop-rest
 invariant-loop-rest l = record {
   few : l.len < 204;
   whole : l.len % 3 ≡ 0;
-  none : length l.rest ≡ length l.text → l.len ≡ l.fn.self.len;
   leaves : Leaves (held_bytes l.fn.self) l.text l.rest (take l.len l.self.bytes);
 }
 
