@@ -1,6 +1,6 @@
 //! Worked examples, through the public calls of the library: tables of texts and results, over few helpers, since each
 //! function is proved before it runs. A helper takes a table by reference, which is much cheaper to prove than a loop over
-//! its rows by value.
+//! its rows by value. Small helpers with few fallible calls are cheaper to prove than one function with many.
 
 mod base64;
 mod base64_blocks;
@@ -22,10 +22,15 @@ fn shown(about: &str) -> &str {
     about.get(..60).unwrap_or(about)
 }
 
+/// Asserts a fact about a text. A call is cheaper to prove than `assert!`.
+fn assert_that(rt: &impl Abort, about: &str, is_right: bool) {
+    let about = shown(about);
+    assert!(rt; is_right, "{about}");
+}
+
 /// Asserts that bytes are as wanted.
 fn assert_same(rt: &impl Abort, about: &str, found: &[u8], wanted: &[u8]) {
-    let about = shown(about);
-    assert!(rt; found == wanted, "{about}");
+    assert_that(rt, about, found == wanted);
 }
 
 /// Asserts that a value is printed as wanted.

@@ -84,6 +84,20 @@ pub fn assert_whole(
     Ok(())
 }
 
+/// Asserts the same of a text that is fed byte by byte.
+fn assert_bytewise(
+    rt: &impl Abort,
+    alloc: Global,
+    about: &str,
+    text: &[u8],
+    bytes: &[u8],
+    message: &str,
+) -> Result<(), AllocError> {
+    let single: Vec<&[u8]> = text.chunks(1).collect(alloc)?;
+    Source::Base64(single.as_slice()).assert_is(rt, alloc, about, bytes, message)?;
+    Ok(())
+}
+
 /// Asserts the bytes of a text before its first fault, and the message for that fault: as a whole, fed byte by byte, and
 /// fed in two pieces.
 pub fn assert_base64(
@@ -95,8 +109,7 @@ pub fn assert_base64(
     message: &str,
 ) -> Result<(), AllocError> {
     assert_whole(rt, alloc, about, text, bytes, message)?;
-    let single: Vec<&[u8]> = text.chunks(1).collect(alloc)?;
-    Source::Base64(single.as_slice()).assert_is(rt, alloc, about, bytes, message)?;
+    assert_bytewise(rt, alloc, about, text, bytes, message)?;
     for at in 0..=text.len() {
         let (front, back) = text.split_at(at);
         Source::Base64(&[front, back]).assert_is(rt, alloc, about, bytes, message)?;

@@ -2,7 +2,7 @@
 
 use super::base64::{AFTER_PADDING, EXCLAMATION, LONE, PADDING, assert_base64, assert_whole};
 use super::recorder::Source;
-use super::with_run;
+use super::{assert_that, with_run};
 use std::alloc::{AllocError, Global};
 use std::process::Abort;
 use std::test::Fail;
@@ -16,9 +16,9 @@ const SPACED: &str =
 /// Returns the six bits of a symbol.
 fn six_bits(byte: u8) -> Option<u8> {
     match byte {
-        b'A'..=b'Z' => Some(byte - b'A'),
-        b'a'..=b'z' => Some(byte - b'a' + 26),
-        b'0'..=b'9' => Some(byte - b'0' + 52),
+        b'A'..=b'Z' => Some(byte.wrapping_sub(b'A')),
+        b'a'..=b'z' => Some(byte.wrapping_sub(b'a').wrapping_add(26)),
+        b'0'..=b'9' => Some(byte.wrapping_sub(b'0').wrapping_add(52)),
         b'+' => Some(62),
         b'/' => Some(63),
         _ => None,
@@ -50,24 +50,23 @@ fn read(alloc: Global, text: &[u8]) -> Result<(Vec<u8>, String), AllocError> {
     Ok((values, String::from_str(alloc, message)?))
 }
 
+/// Returns the bytes of up to four symbols, by their six bits, and how many of the bytes count.
+fn bytes_of_group(group: &[u8], is_valid: bool) -> ([u8; 3], usize) {
+    match group {
+        [a, b, c, d] => ([*a << 2 | *b >> 4, *b << 4 | *c >> 2, *c << 6 | *d], 3),
+        [a, b, c] if is_valid => ([*a << 2 | *b >> 4, *b << 4 | *c >> 2, 0], 2),
+        [a, b] if is_valid => ([*a << 2 | *b >> 4, 0, 0], 1),
+        _ => ([0; 3], 0),
+    }
+}
+
 /// Returns the bytes of groups of four symbols, by their six bits. Those of symbols that are left over are added if the
 /// text is valid.
 fn bytes_of(alloc: Global, values: &[u8], is_valid: bool) -> Result<Vec<u8>, AllocError> {
     let mut bytes = Vec::new(alloc);
     for group in values.chunks(4) {
-        match group {
-            [a, b, c, d] => bytes.extend_from_slice(&[
-                *a << 2 | *b >> 4,
-                *b << 4 | *c >> 2,
-                *c << 6 | *d,
-            ])?,
-            [a, b, c] if is_valid => bytes.extend_from_slice(&[
-                *a << 2 | *b >> 4,
-                *b << 4 | *c >> 2,
-            ])?,
-            [a, b] if is_valid => bytes.extend_from_slice(&[*a << 2 | *b >> 4])?,
-            _ => {}
-        }
+        let (found, count) = bytes_of_group(group, is_valid);
+        bytes.extend_from_slice(found.get(..count).unwrap_or(&[]))?;
     }
     Ok(bytes)
 }
@@ -107,7 +106,8 @@ fn each_cut_in_two(rt: HostRuntime) -> Result<(), Fail> {
     let text = SPACED.as_bytes();
     let (values, message) = read(rt.alloc(), text)?;
     let bytes = bytes_of(rt.alloc(), values.as_slice(), message.is_empty())?;
-    assert!(rt; text.len() == 200 && bytes.len() == 133 && message.is_empty());
+    assert_that(&rt, "lengths", text.len() == 200 && bytes.len() == 133);
+    assert_that(&rt, "valid", message.is_empty());
     assert_base64(&rt, rt.alloc(), SPACED, text, bytes.as_slice(), "")?;
     Ok(())
 }
@@ -150,10 +150,24 @@ fn assert_cuts(
     for (groups, end, its_bytes, message, lengths) in rows {
         let text = with_run(alloc, [before, "QUJD", end], *groups)?;
         let bytes = with_run(alloc, ["", "ABC", its_bytes], *groups)?;
-        let source = Source::Base64(&[text.as_bytes()]);
-        let record = source.assert_is(rt, alloc, end, bytes.as_bytes(), message)?;
-        assert!(rt; record.lengths.as_slice() == *lengths, "{end}");
+        let parts = [text.as_str(), bytes.as_str(), message];
+        assert_lengths(rt, alloc, end, parts, lengths)?;
     }
+    Ok(())
+}
+
+/// Asserts the bytes, the message and the lengths of the pieces of a text.
+fn assert_lengths(
+    rt: &impl Abort,
+    alloc: Global,
+    about: &str,
+    parts: [&str; 3],
+    lengths: &[usize],
+) -> Result<(), AllocError> {
+    let [text, bytes, message] = parts;
+    let source = Source::Base64(&[text.as_bytes()]);
+    let record = source.assert_is(rt, alloc, about, bytes.as_bytes(), message)?;
+    assert_that(rt, about, record.lengths.as_slice() == lengths);
     Ok(())
 }
 

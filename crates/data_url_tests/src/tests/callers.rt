@@ -1,5 +1,6 @@
 //! The callers in `crates/uses`.
 
+use super::{assert_same, assert_that};
 use data_url::DataUrl;
 use data_url::forgiving_base64::Decoder;
 use data_url::mime::Mime;
@@ -36,15 +37,28 @@ impl Write for FailingSink {
     }
 }
 
+/// Returns whether a URL's body has a length, and whether it is this one.
+fn has_len(url: &DataUrl, len: usize) -> (bool, bool) {
+    match body_len(url) {
+        Ok(found) => (true, found == len),
+        Err(_) => (false, false),
+    }
+}
+
+/// Returns whether a URL's body is appended.
+fn is_appended(url: &DataUrl, bytes: &mut Vec<u8>) -> bool {
+    append_body(url, bytes).is_ok()
+}
+
 /// Asserts the length of a URL's body, and what is appended if it is decoded twice.
 fn assert_body(rt: &impl Abort, alloc: Global, text: &str, body: &[u8]) -> Result<(), Fail> {
     let url = DataUrl::process(alloc, text)?;
-    assert!(rt; body_len(&url)? == body.len());
+    assert_that(rt, text, has_len(&url, body.len()).1);
     let mut bytes = Vec::new(alloc);
-    append_body(&url, &mut bytes)?;
-    append_body(&url, &mut bytes)?;
-    let (first, second) = bytes.split_at(body.len().min(bytes.len()));
-    assert!(rt; first == body && second == body);
+    assert_that(rt, text, is_appended(&url, &mut bytes));
+    assert_that(rt, text, is_appended(&url, &mut bytes));
+    let (first, second) = (bytes.get(..body.len()), bytes.get(body.len()..));
+    assert_that(rt, text, first == Some(body) && second == Some(body));
     Ok(())
 }
 
@@ -58,25 +72,33 @@ fn bodies_are_counted_and_appended(rt: HostRuntime) -> Result<(), Fail> {
 
 #[test]
 fn a_body_with_a_fault(rt: HostRuntime) -> Result<(), Fail> {
-    let url = DataUrl::process(rt.alloc(), "data:;base64,QUJD!")?;
-    assert!(rt; body_len(&url).is_err());
+    let text = "data:;base64,QUJD!";
+    let url = DataUrl::process(rt.alloc(), text)?;
+    assert_that(&rt, text, !has_len(&url, 0).0);
     let mut bytes = Vec::new(rt.alloc());
     bytes.push(b'x')?;
-    assert!(rt; append_body(&url, &mut bytes).is_err());
-    assert!(rt; bytes.as_slice() == b"xABC".as_slice());
+    assert_that(&rt, text, !is_appended(&url, &mut bytes));
+    assert_same(&rt, text, bytes.as_slice(), b"xABC");
     Ok(())
+}
+
+/// Feeds chunks, and returns whether they are all taken, and whether the decoder has failed.
+fn feed(chunks: &[&[u8]], bytes: &mut Vec<u8>) -> (bool, bool) {
+    let mut decoder = Decoder::new(|piece: &[u8]| -> Result<(), AllocError> {
+        bytes.extend_from_slice(piece)
+    });
+    let is_fed = feed_chunks(&mut decoder, chunks);
+    let has_failed = decoder.has_failed();
+    let _closure = decoder.into_closure();
+    (is_fed, has_failed)
 }
 
 /// Asserts whether chunks are all taken, and their bytes before the first fault.
 fn assert_fed(rt: &impl Abort, alloc: Global, chunks: &[&[u8]], is_valid: bool, decoded: &[u8]) {
     let mut bytes = Vec::new(alloc);
-    let mut decoder = Decoder::new(|piece: &[u8]| -> Result<(), AllocError> {
-        bytes.extend_from_slice(piece)
-    });
-    let is_fed = feed_chunks(&mut decoder, chunks);
-    assert!(rt; is_fed == is_valid && decoder.has_failed() != is_valid);
-    let _closure = decoder.into_closure();
-    assert!(rt; bytes.as_slice() == decoded);
+    let (is_fed, has_failed) = feed(chunks, &mut bytes);
+    assert_that(rt, "chunks", is_fed == is_valid && has_failed != is_valid);
+    assert_same(rt, "chunks", bytes.as_slice(), decoded);
 }
 
 #[test]
@@ -108,52 +130,68 @@ fn chunks_are_fed_up_to_a_fault(rt: HostRuntime) {
 #[test]
 fn a_resource_within_its_limit(rt: HostRuntime) -> Result<(), Fail> {
     let mut sink = Vec::new(rt.alloc());
-    let Ok(mime) = load(rt.alloc(), "data:A/B;C=D,Hello%20World!", 12, &mut sink) else {
+    let text = "data:A/B;C=D,Hello%20World!";
+    let Ok(mime) = load(rt.alloc(), text, 12, &mut sink) else {
         panic!(rt; "not loaded");
     };
-    assert!(rt; mime.matches("a", "b") && mime.get_parameter("c") == Some("D"));
-    assert!(rt; sink.as_slice() == b"Hello World!".as_slice());
+    assert_that(&rt, text, mime.matches("a", "b"));
+    assert_that(&rt, text, mime.get_parameter("c") == Some("D"));
+    assert_same(&rt, text, sink.as_slice(), b"Hello World!");
     Ok(())
 }
 
-/// Returns why a text is not loaded, and what was written.
-fn refused(rt: &impl Abort, alloc: Global, text: &str, limit: usize) -> (LoadError, Vec<u8>) {
-    let mut sink = Vec::new(alloc);
-    match load(alloc, text, limit, &mut sink) {
-        Ok(_mime) => panic!(rt; "{text}"),
-        Err(error) => (error, sink),
+/// Loads a text, and returns the name of the error, or nothing if it is loaded.
+fn refused<W: Write>(alloc: Global, text: &str, limit: usize, sink: &mut W) -> &'static str {
+    match load(alloc, text, limit, sink) {
+        Ok(_) => "",
+        Err(LoadError::NotADataUrl) => "not a data: URL",
+        Err(LoadError::NoComma) => "no comma",
+        Err(LoadError::InvalidBase64(_)) => "invalid base64",
+        Err(LoadError::OverLimit) => "over the limit",
+        Err(LoadError::SinkFailed) => "the sink failed",
+        Err(LoadError::OutOfMemory) => "out of memory",
     }
+}
+
+/// Asserts that a body is over its limit, and how many bytes are written at most.
+fn assert_over_limit(rt: &impl Abort, alloc: Global, text: &str, limit: usize) {
+    let mut sink = Vec::new(alloc);
+    let error = refused(alloc, text, limit, &mut sink);
+    assert_that(rt, text, error == "over the limit" && sink.len() <= limit);
 }
 
 #[test]
 fn a_resource_over_its_limit(rt: HostRuntime) {
-    let (error, written) = refused(&rt, rt.alloc(), "data:,Hello%20World!", 11);
-    assert!(rt; matches!(error, LoadError::OverLimit) && written.len() <= 11);
-    let (error, written) = refused(&rt, rt.alloc(), "data:;base64,QUJDQUJD", 5);
-    assert!(rt; matches!(error, LoadError::OverLimit) && written.len() <= 5);
+    assert_over_limit(&rt, rt.alloc(), "data:,Hello%20World!", 11);
+    assert_over_limit(&rt, rt.alloc(), "data:;base64,QUJDQUJD", 5);
+}
+
+/// Asserts why a text is not loaded, and what was written.
+fn assert_not_loaded(rt: &impl Abort, alloc: Global, text: &str, error: &str, written: &[u8]) {
+    let mut sink = Vec::new(alloc);
+    assert_that(rt, text, refused(alloc, text, 9, &mut sink) == error);
+    assert_same(rt, text, sink.as_slice(), written);
 }
 
 #[test]
 fn texts_that_are_not_loaded(rt: HostRuntime) {
-    let (error, written) = refused(&rt, rt.alloc(), "date:,x", 9);
-    assert!(rt; matches!(error, LoadError::NotADataUrl) && written.is_empty());
-    let (error, written) = refused(&rt, rt.alloc(), "data:#,x", 9);
-    assert!(rt; matches!(error, LoadError::NoComma) && written.is_empty());
-    let (error, written) = refused(&rt, rt.alloc(), "data:;base64,QUJD!", 9);
-    assert!(rt; matches!(error, LoadError::InvalidBase64(_)));
-    assert!(rt; written.as_slice() == b"ABC".as_slice());
+    assert_not_loaded(&rt, rt.alloc(), "date:,x", "not a data: URL", b"");
+    assert_not_loaded(&rt, rt.alloc(), "data:#,x", "no comma", b"");
+    let text = "data:;base64,QUJD!";
+    assert_not_loaded(&rt, rt.alloc(), text, "invalid base64", b"ABC");
 }
 
 #[test]
 fn a_sink_that_fails(rt: HostRuntime) -> Result<(), Fail> {
+    let text = "data:,Hello%20World!";
     for room in 0..12 {
         let mut sink = FailingSink {
             taken: Vec::new(rt.alloc()),
             room,
         };
-        let refused = load(rt.alloc(), "data:,Hello%20World!", 99, &mut sink);
-        assert!(rt; matches!(refused, Err(LoadError::SinkFailed)));
-        assert!(rt; sink.taken.as_slice() == &b"Hello World!"[..room]);
+        let error = refused(rt.alloc(), text, 99, &mut sink);
+        assert_that(&rt, text, error == "the sink failed");
+        assert_same(&rt, text, sink.taken.as_slice(), &b"Hello World!"[..room]);
     }
     Ok(())
 }
@@ -166,10 +204,16 @@ fn assert_response(rt: &impl Abort, alloc: Global, text: &str, type_: &str, body
     let Ok(response) = fetch(alloc, text) else {
         panic!(rt; "not fetched");
     };
-    let content_type = response.content_type.as_str();
-    assert!(rt; response.status == 200 && content_type == type_);
-    assert!(rt; response.body.as_slice() == body);
-    assert!(rt; matches!(content_length(alloc, text), Ok(len) if len == body.len()));
+    let content_type = response.content_type.as_bytes();
+    assert_that(rt, text, response.status == 200);
+    assert_same(rt, text, content_type, type_.as_bytes());
+    assert_same(rt, text, response.body.as_slice(), body);
+    assert_that(rt, text, is_content_length(alloc, text, body.len()));
+}
+
+/// Returns whether a text has a content length, and it is this one.
+fn is_content_length(alloc: Global, text: &str, wanted: usize) -> bool {
+    matches!(content_length(alloc, text), Ok(len) if len == wanted)
 }
 
 #[test]
@@ -187,15 +231,40 @@ fn responses(rt: HostRuntime) {
     assert_response(&rt, rt.alloc(), text, "a/b;c=\"d e\"", b"Y");
 }
 
+/// Fetches a text, and returns the name of the error, or nothing if it is fetched.
+fn network_error(alloc: Global, text: &str) -> &'static str {
+    match fetch(alloc, text) {
+        Ok(_) => "",
+        Err(FetchError::Network(Reason::NotADataUrl)) => "not a data: URL",
+        Err(FetchError::Network(Reason::NoComma)) => "no comma",
+        Err(FetchError::Network(Reason::InvalidBase64(_))) => "invalid base64",
+        Err(FetchError::OutOfMemory) => "out of memory",
+    }
+}
+
 #[test]
-fn network_errors(rt: HostRuntime) -> Result<(), Fail> {
-    let refused = fetch(rt.alloc(), "da ta:,x");
-    assert!(rt; matches!(refused, Err(FetchError::Network(Reason::NotADataUrl))));
-    let refused = fetch(rt.alloc(), "data:#,x");
-    assert!(rt; matches!(refused, Err(FetchError::Network(Reason::NoComma))));
-    let refused = fetch(rt.alloc(), "data:;base64,=");
-    assert!(rt; matches!(refused, Err(FetchError::Network(Reason::InvalidBase64(_)))));
-    Ok(())
+fn network_errors(rt: HostRuntime) {
+    let error = network_error(rt.alloc(), "da ta:,x");
+    assert_that(&rt, "da ta:,x", error == "not a data: URL");
+    let error = network_error(rt.alloc(), "data:#,x");
+    assert_that(&rt, "data:#,x", error == "no comma");
+    let error = network_error(rt.alloc(), "data:;base64,=");
+    assert_that(&rt, "data:;base64,=", error == "invalid base64");
+}
+
+/// Returns the records of texts.
+fn records_of(alloc: Global, texts: &[&str; 4]) -> Result<Vec<Mime>, Fail> {
+    let mut records = Vec::new(alloc);
+    for text in texts {
+        records.push(Mime::from_str(alloc, text)?)?;
+    }
+    Ok(records)
+}
+
+/// Returns the place of the best of the accepted types for this one.
+fn place_of(alloc: Global, accepted: &[Mime], text: &str) -> Result<Option<usize>, Fail> {
+    let mime = Mime::from_str(alloc, text)?;
+    Ok(best(accepted, &mime))
 }
 
 /// Asserts the place of the best of four accepted types, for each type of a table.
@@ -205,13 +274,10 @@ fn assert_best(
     texts: &[&str; 4],
     rows: &[(&str, Option<usize>)],
 ) -> Result<(), Fail> {
-    let mut accepted = Vec::new(alloc);
-    for text in texts {
-        accepted.push(Mime::from_str(alloc, text)?)?;
-    }
+    let accepted = records_of(alloc, texts)?;
     for (text, place) in rows {
-        let mime = Mime::from_str(alloc, text)?;
-        assert!(rt; best(&accepted, &mime) == *place, "{text}");
+        let found = place_of(alloc, accepted.as_slice(), text)?;
+        assert_that(rt, text, found == *place);
     }
     Ok(())
 }
@@ -235,6 +301,22 @@ fn the_first_of_equals_or_none(rt: HostRuntime) -> Result<(), Fail> {
     assert_best(&rt, rt.alloc(), &texts, &rows)
 }
 
+/// Writes a resource: its text, its type and its body.
+fn write_inlined(
+    all: &mut Vec<u8>,
+    text: &str,
+    type_: &str,
+    body: &[u8],
+) -> Result<(), AllocError> {
+    all.extend_from_slice(b"[")?;
+    all.extend_from_slice(text.as_bytes())?;
+    all.extend_from_slice(b", ")?;
+    all.extend_from_slice(type_.as_bytes())?;
+    all.extend_from_slice(b", ")?;
+    all.extend_from_slice(body)?;
+    all.extend_from_slice(b"]")
+}
+
 /// Writes the part of a page: its text, a resource in brackets, with its type and body, or a refused reference in parentheses,
 /// with the reason.
 fn write_part(alloc: Global, all: &mut Vec<u8>, part: &Part) -> Result<(), AllocError> {
@@ -242,16 +324,22 @@ fn write_part(alloc: Global, all: &mut Vec<u8>, part: &Part) -> Result<(), Alloc
         Part::Text(text) => all.extend_from_slice(text.as_bytes()),
         Part::Inlined(text, response) => {
             let type_ = response.content_type.as_str();
-            let front = format!(in alloc; "[{text}, {type_}, ")?;
-            all.extend_from_slice(front.as_bytes())?;
-            all.extend_from_slice(response.body.as_slice())?;
-            all.extend_from_slice(b"]")
+            write_inlined(all, text, type_, response.body.as_slice())
         }
         Part::Refused(text, reason) => {
             let whole = format!(in alloc; "({text}, {reason:?})")?;
             all.extend_from_slice(whole.as_bytes())
         }
     }
+}
+
+/// Returns the parts of a page as they are written one after another.
+fn written(alloc: Global, parts: &[Part]) -> Result<Vec<u8>, AllocError> {
+    let mut all = Vec::new(alloc);
+    for part in parts {
+        write_part(alloc, &mut all, part)?;
+    }
+    Ok(all)
 }
 
 /// Asserts the parts of a page, as they are written one after another.
@@ -263,12 +351,9 @@ fn assert_parts(
     wanted: &[u8],
 ) -> Result<(), Fail> {
     let parts = inline(alloc, page)?;
-    assert!(rt; parts.len() == count);
-    let mut all = Vec::new(alloc);
-    for part in parts.as_slice() {
-        write_part(alloc, &mut all, part)?;
-    }
-    assert!(rt; all.as_slice() == wanted);
+    assert_that(rt, page, parts.len() == count);
+    let all = written(alloc, parts.as_slice())?;
+    assert_same(rt, page, all.as_slice(), wanted);
     Ok(())
 }
 
@@ -300,8 +385,9 @@ const LONG: usize = 100_000;
 /// Asserts what a URL is loaded as, with its body's length as the limit.
 fn assert_loaded(rt: &impl Abort, alloc: Global, text: &str, body: &[u8]) {
     let mut sink = Vec::new(alloc);
-    let is_loaded = load(alloc, text, body.len(), &mut sink).is_ok();
-    assert!(rt; is_loaded && sink.as_slice() == body);
+    let error = refused(alloc, text, body.len(), &mut sink);
+    assert_that(rt, text, error.is_empty());
+    assert_same(rt, text, sink.as_slice(), body);
 }
 
 /// Asserts what each caller makes of a URL with a long body and no type.
@@ -309,6 +395,11 @@ fn assert_long(rt: &impl Abort, alloc: Global, text: &str, body: &str) -> Result
     assert_body(rt, alloc, text, body.as_bytes())?;
     assert_response(rt, alloc, text, DEFAULT, body.as_bytes());
     assert_loaded(rt, alloc, text, body.as_bytes());
+    assert_inlined(rt, alloc, text, body)
+}
+
+/// Asserts the parts of a page with this URL.
+fn assert_inlined(rt: &impl Abort, alloc: Global, text: &str, body: &str) -> Result<(), Fail> {
     let page = format!(in alloc; "<img src=\"{text}\">")?;
     let wanted = format!(in alloc; "<img src=\"[{text}, {DEFAULT}, {body}]\">")?;
     assert_parts(rt, alloc, page.as_str(), 3, wanted.as_bytes())

@@ -1,7 +1,7 @@
 //! Where the functions that decode cut a body, and closures that return an error.
 
 use super::recorder::{Closure, Source};
-use super::with_run;
+use super::{assert_that, with_run};
 use data_url::DataUrl;
 use data_url::forgiving_base64::DecodeError;
 use std::alloc::Global;
@@ -36,6 +36,11 @@ fn count_long(lengths: &[usize]) -> usize {
     lengths.iter().filter(|len| **len > BUFFER_LEN).count()
 }
 
+/// Returns the length of the longest piece.
+fn longest_of(lengths: &[usize]) -> usize {
+    lengths.iter().max().copied().unwrap_or(0)
+}
+
 /// What comes before and after a long stretch, and the least length of the longest piece.
 const AROUND_STRETCHES: [(&str, &str, usize); 5] = [
     ("", "", LONG),
@@ -49,9 +54,8 @@ const AROUND_STRETCHES: [(&str, &str, usize); 5] = [
 fn assert_long(rt: &impl Abort, alloc: Global, rows: &[(&str, &str, usize)]) -> Result<(), Fail> {
     for (front, back, least) in rows {
         let lengths = lengths_of(rt, alloc, [front, "a", back], LONG)?;
-        let longest = lengths.iter().max().copied().unwrap_or(0);
-        assert!(rt; count_long(&lengths) == 1, "{front}, {back}");
-        assert!(rt; longest >= *least, "{front}, {back}");
+        assert_that(rt, front, count_long(&lengths) == 1);
+        assert_that(rt, front, longest_of(&lengths) >= *least);
     }
     Ok(())
 }
@@ -76,8 +80,8 @@ fn assert_gathered(rt: &impl Abort, alloc: Global, rows: &[(&str, usize)]) -> Re
     for (part, len) in rows {
         let lengths = lengths_of(rt, alloc, ["", part, ""], 5000)?;
         let most = 5000_usize.saturating_mul(*len) / (BUFFER_LEN / 2);
-        assert!(rt; count_long(&lengths) == 0, "{part}");
-        assert!(rt; lengths.len() <= most, "{part}");
+        assert_that(rt, part, count_long(&lengths) == 0);
+        assert_that(rt, part, lengths.len() <= most);
     }
     Ok(())
 }
@@ -106,8 +110,12 @@ fn assert_ends(rt: &impl Abort, alloc: Global, url: &DataUrl, closure: &Closure)
         Closure::Returned => url.decode_with(write).0,
     };
     let is_refused = matches!(answer, Err(DecodeError::WriteError(REFUSED)));
-    assert!(rt; is_refused);
-    assert!(rt; [b"aA".as_slice(), b"aAb"].contains(&bytes.as_slice()));
+    assert_that(rt, "refused", is_refused);
+    assert_that(
+        rt,
+        "bytes",
+        [b"aA".as_slice(), b"aAb"].contains(&bytes.as_slice()),
+    );
 }
 
 #[test]

@@ -1,6 +1,6 @@
 //! MIME types: texts, records, and what is printed.
 
-use super::{assert_printed, shown};
+use super::{assert_printed, assert_that};
 use data_url::laws::{canonical, same_text};
 use data_url::mime::Mime;
 use std::alloc::{AllocError, Global};
@@ -75,8 +75,8 @@ pub fn assert_read_again(
     let printed = format!(in alloc; "{mime}")?;
     let again = Mime::from_str(alloc, printed.as_str())?;
     let copy = mime.clone()?;
-    let about = shown(about);
-    assert!(rt; again == *mime && copy == *mime, "{about}");
+    assert_that(rt, about, again == *mime);
+    assert_that(rt, about, copy == *mime);
     Ok(())
 }
 
@@ -162,9 +162,10 @@ fn a_record_that_no_text_gives(rt: HostRuntime) -> Result<(), Fail> {
 #[test]
 fn records_built_by_hand(rt: HostRuntime) -> Result<(), Fail> {
     let html = record_of(rt.alloc(), ["text", "html", "one", "two"])?;
-    assert!(rt; html.matches("text", "html") & !html.matches("text", "plain"));
-    assert!(rt; html.get_parameter("one") == Some("two"));
-    assert!(rt; html.get_parameter("two").is_none());
+    assert_that(&rt, "html", html.matches("text", "html"));
+    assert_that(&rt, "html", !html.matches("text", "plain"));
+    assert_that(&rt, "one", html.get_parameter("one") == Some("two"));
+    assert_that(&rt, "two", html.get_parameter("two").is_none());
     Ok(())
 }
 
@@ -173,8 +174,10 @@ fn records_are_compared(rt: HostRuntime) -> Result<(), Fail> {
     let html = record_of(rt.alloc(), ["text", "html", "one", "two"])?;
     let plain = Mime::new(rt.alloc(), "text", "plain")?;
     let copy = plain.clone()?;
-    assert!(rt; plain.matches("text", "plain") & copy.matches("text", "plain"));
-    assert!(rt; (copy == plain) & (html != plain));
+    assert_that(&rt, "plain", plain.matches("text", "plain"));
+    assert_that(&rt, "copy", copy.matches("text", "plain"));
+    assert_that(&rt, "equal", copy == plain);
+    assert_that(&rt, "not equal", html != plain);
     Ok(())
 }
 
@@ -182,7 +185,7 @@ fn records_are_compared(rt: HostRuntime) -> Result<(), Fail> {
 fn the_order_of_parameters_counts(rt: HostRuntime) -> Result<(), Fail> {
     let first = Mime::from_str(rt.alloc(), "x/x;a=1;b=2")?;
     let second = Mime::from_str(rt.alloc(), "x/x;b=2;a=1")?;
-    assert!(rt; first != second);
+    assert_that(&rt, "order", first != second);
     canonical(&first);
     same_text(&first, &second);
     Ok(())

@@ -1,7 +1,7 @@
 //! Bodies in pieces: stretches, escapes, and texts around the edges of a block.
 
-use super::assert_same;
 use super::recorder::Source;
+use super::{assert_same, assert_that};
 use data_url::DataUrl;
 use data_url::escapes::{Piece, Pieces};
 use std::alloc::{AllocError, Global};
@@ -43,17 +43,28 @@ fn write_piece(alloc: Global, all: &mut Vec<u8>, piece: &Piece) -> Result<(), Al
     Ok(())
 }
 
+/// Writes as many pieces as a text of this length has at most.
+fn write_pieces(
+    alloc: Global,
+    all: &mut Vec<u8>,
+    pieces: &mut Pieces,
+    len: usize,
+) -> Result<(), AllocError> {
+    for _ in 0..=len {
+        match pieces.next() {
+            Some(piece) => write_piece(alloc, all, &piece)?,
+            None => break,
+        }
+    }
+    Ok(())
+}
+
 /// Returns the pieces of a text and its fragment, as they are written in the table. Asserts that no piece follows the last
 /// one.
 fn written(rt: &impl Abort, alloc: Global, text: &str) -> Result<Vec<u8>, AllocError> {
     let mut all = Vec::new(alloc);
     let mut pieces = Pieces::new(text);
-    for _ in 0..=text.len() {
-        match pieces.next() {
-            Some(piece) => write_piece(alloc, &mut all, &piece)?,
-            None => break,
-        }
-    }
+    write_pieces(alloc, &mut all, &mut pieces, text.len())?;
     let None = pieces.next() else {
         panic!(rt; "{text}");
     };
@@ -135,7 +146,7 @@ fn joined(rt: &impl Abort, alloc: Global, text: &str) -> Result<Vec<u8>, AllocEr
     for _ in 0..=text.len() {
         match pieces.next() {
             Some(Piece::Slice(slice)) => {
-                assert!(rt; !slice.is_empty());
+                assert_that(rt, text, !slice.is_empty());
                 all.extend_from_slice(slice)?;
             }
             Some(Piece::Byte(byte)) => all.push(byte)?,
@@ -163,11 +174,22 @@ fn assert_decoded(
 /// Asserts the body of a URL whose tail is this text, and the bytes of the text's pieces.
 fn assert_body(rt: &impl Abort, alloc: Global, text: &str) -> Result<(), Fail> {
     let body = body_of(alloc, text)?;
+    assert_joined(rt, alloc, text, body.as_slice())?;
+    assert_tail(rt, alloc, text, body.as_slice())
+}
+
+/// Asserts the bytes of a text's pieces.
+fn assert_joined(rt: &impl Abort, alloc: Global, text: &str, body: &[u8]) -> Result<(), Fail> {
     let bytes = joined(rt, alloc, text)?;
-    assert_same(rt, text, bytes.as_slice(), body.as_slice());
+    assert_same(rt, text, bytes.as_slice(), body);
+    Ok(())
+}
+
+/// Asserts the body of a URL whose tail is this text.
+fn assert_tail(rt: &impl Abort, alloc: Global, text: &str, body: &[u8]) -> Result<(), Fail> {
     let whole = format!(in alloc; "data:,{text}")?;
     let url = DataUrl::process(alloc, whole.as_str())?;
-    assert_decoded(rt, alloc, text, &url, body.as_slice())
+    assert_decoded(rt, alloc, text, &url, body)
 }
 
 /// What follows a place: more than a block of 64 bytes.

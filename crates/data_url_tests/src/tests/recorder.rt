@@ -1,6 +1,6 @@
 //! Records of the calls of a closure by the functions that decode.
 
-use super::{assert_same, shown};
+use super::{assert_same, assert_that};
 use data_url::forgiving_base64::{DecodeError, Decoder};
 use data_url::{DataUrl, FragmentIdentifier};
 use std::alloc::{AllocError, Global};
@@ -70,15 +70,20 @@ impl Record {
     pub fn assert_is(&self, rt: &impl Abort, about: &str, bytes: &[u8], answer: &str) {
         assert_same(rt, about, self.bytes.as_slice(), bytes);
         assert_same(rt, about, self.answer.as_bytes(), answer.as_bytes());
-        let about = shown(about);
-        assert!(rt; !self.lengths.as_slice().contains(&0), "{about}");
+        assert_that(rt, about, !self.lengths.as_slice().contains(&0));
     }
 
     /// Asserts that another record has the same bytes, result and lengths of pieces.
     fn assert_equals(&self, rt: &impl Abort, about: &str, other: &Record) {
         self.assert_is(rt, about, other.bytes.as_slice(), other.answer.as_str());
-        let about = shown(about);
-        assert!(rt; self.lengths == other.lengths, "{about}");
+        assert_that(rt, about, self.lengths == other.lengths);
+    }
+
+    /// Asserts the result, the number of calls, and that the bytes are a prefix of these.
+    fn assert_ends(&self, rt: &impl Abort, about: &str, bytes: &[u8], answer: &str, calls: usize) {
+        assert_same(rt, about, self.answer.as_bytes(), answer.as_bytes());
+        assert_that(rt, about, self.lengths.len() == calls);
+        assert_that(rt, about, bytes.starts_with(self.bytes.as_slice()));
     }
 }
 
@@ -135,7 +140,7 @@ fn record_base64(
             break;
         }
         ended = decoder.feed(piece);
-        assert!(rt; decoder.has_failed() == ended.is_err());
+        assert_that(rt, "fed", decoder.has_failed() == ended.is_err());
     }
     match closure {
         Closure::Returned if decoder.has_failed() => {
@@ -192,15 +197,41 @@ impl<'a> Source<'a> {
     ) -> Result<(), AllocError> {
         let record = self.record_both(rt, alloc, about, refused)?;
         let message = format!(in alloc; "write error: {refused}")?;
-        assert_same(rt, about, record.answer.as_bytes(), message.as_bytes());
-        let about = shown(about);
-        assert!(rt; record.lengths.len() == refused, "{about}");
-        assert!(rt; bytes.starts_with(record.bytes.as_slice()), "{about}");
+        record.assert_ends(rt, about, bytes, message.as_str(), refused);
         Ok(())
     }
 
-    /// Asserts the bytes and the result, and what an error of each of the first hundred calls does. An error of the
-    /// call after the last one, which is never made, changes nothing.
+    /// Asserts what an error of each of the first calls does, up to a hundred of them.
+    fn assert_each_refused(
+        &self,
+        rt: &impl Abort,
+        alloc: Global,
+        about: &str,
+        bytes: &[u8],
+        calls: usize,
+    ) -> Result<(), AllocError> {
+        for refused in 1..=calls.min(REFUSALS) {
+            self.assert_refused(rt, alloc, about, bytes, refused)?;
+        }
+        Ok(())
+    }
+
+    /// Asserts that an error of the call after the last one, which is never made, changes nothing.
+    fn assert_never_refused(
+        &self,
+        rt: &impl Abort,
+        alloc: Global,
+        about: &str,
+        whole: &Record,
+    ) -> Result<(), AllocError> {
+        let beyond = whole.lengths.len().saturating_add(1);
+        let record = self.record_both(rt, alloc, about, beyond)?;
+        record.assert_equals(rt, about, whole);
+        Ok(())
+    }
+
+    /// Asserts the bytes and the result, and what an error of each of the first hundred calls does, and one of the call
+    /// after the last one.
     pub fn assert_is(
         &self,
         rt: &impl Abort,
@@ -211,12 +242,8 @@ impl<'a> Source<'a> {
     ) -> Result<Record, AllocError> {
         let whole = self.record_both(rt, alloc, about, 0)?;
         whole.assert_is(rt, about, bytes, answer);
-        let beyond = whole.lengths.len().saturating_add(1);
-        let never_refused = self.record_both(rt, alloc, about, beyond)?;
-        never_refused.assert_equals(rt, about, &whole);
-        for refused in 1..=whole.lengths.len().min(REFUSALS) {
-            self.assert_refused(rt, alloc, about, bytes, refused)?;
-        }
+        self.assert_never_refused(rt, alloc, about, &whole)?;
+        self.assert_each_refused(rt, alloc, about, bytes, whole.lengths.len())?;
         Ok(whole)
     }
 }

@@ -3,7 +3,7 @@
 use super::base64::assert_whole;
 use super::mime::{assert_mime, assert_read_again};
 use super::urls::{DEFAULT, assert_url};
-use super::{assert_printed, with_run};
+use super::{assert_printed, assert_that, with_run};
 use data_url::DataUrl;
 use data_url::forgiving_base64::decode_to_vec;
 use data_url::mime::Mime;
@@ -45,6 +45,11 @@ fn assert_parts(rt: &impl Abort, alloc: Global, size: usize) -> Result<(), Fail>
 fn assert_types(rt: &impl Abort, alloc: Global, size: usize) -> Result<(), Fail> {
     let text = with_run(alloc, ["a/b;c=", "d", ""], size)?;
     assert_mime(rt, alloc, "long", text.as_str(), text.as_str())?;
+    assert_type(rt, alloc, size)
+}
+
+/// Asserts the record of a type of `size` bytes.
+fn assert_type(rt: &impl Abort, alloc: Global, size: usize) -> Result<(), Fail> {
     let type_ = "d".repeat(alloc, size)?;
     let mime = Mime::new(alloc, type_.as_str(), "b")?;
     let printed = format!(in alloc; "{type_}/b")?;
@@ -110,7 +115,16 @@ fn assert_capacity(
     let text = with_run(alloc, parts, 900)?;
     let url = DataUrl::process(alloc, text.as_str())?;
     let (bytes, fragment) = url.decode_to_vec(alloc)?;
-    assert!(rt; bytes.capacity() == capacity && fragment.is_some());
+    assert_that(rt, "capacity", bytes.capacity() == capacity);
+    assert_that(rt, "fragment", fragment.is_some());
+    Ok(())
+}
+
+/// Asserts the capacity of the vector of a text of base64.
+fn assert_capacity_of_text(rt: &impl Abort, alloc: Global) -> Result<(), Fail> {
+    let symbols = "QUJD".repeat(alloc, 900)?;
+    let bytes = decode_to_vec(alloc, symbols.as_bytes())?;
+    assert_that(rt, "capacity", bytes.capacity() == 2700);
     Ok(())
 }
 
@@ -127,10 +141,7 @@ fn capacity_is_that_of_the_body(rt: HostRuntime) -> Result<(), Fail> {
     let hundred =
         "0123456789012345678901234567890123456789012345678901234567890123456789012345678901234567890123456789";
     assert_capacity(&rt, alloc, ["data:,%41#", hundred, ""], 65536)?;
-    let symbols = "QUJD".repeat(alloc, 900)?;
-    let bytes = decode_to_vec(alloc, symbols.as_bytes())?;
-    assert!(rt; bytes.capacity() == 2700);
-    Ok(())
+    assert_capacity_of_text(&rt, alloc)
 }
 
 /// Asserts the body of a text with a run in it.
@@ -165,13 +176,16 @@ fn runs_in_mime_types(rt: HostRuntime) -> Result<(), Fail> {
     assert_mime(&rt, rt.alloc(), "many ;", text.as_str(), "x/x")
 }
 
+/// Asserts a record with `count` parameters, as a MIME type and in a URL.
+fn assert_parameters(rt: &impl Abort, alloc: Global, count: u32) -> Result<(), Fail> {
+    let text = with_parameters(alloc, count)?;
+    assert_mime(rt, alloc, "long", text.as_str(), text.as_str())?;
+    let url = format!(in alloc; "data:{text},x")?;
+    assert_url(rt, alloc, [url.as_str(), text.as_str(), "x", ""])
+}
+
 #[test]
 fn many_parameters(rt: HostRuntime) -> Result<(), Fail> {
-    for count in [1000, 5000] {
-        let text = with_parameters(rt.alloc(), count)?;
-        assert_mime(&rt, rt.alloc(), "long", text.as_str(), text.as_str())?;
-        let url = format!(in rt.alloc(); "data:{text},x")?;
-        assert_url(&rt, rt.alloc(), [url.as_str(), text.as_str(), "x", ""])?;
-    }
-    Ok(())
+    assert_parameters(&rt, rt.alloc(), 1000)?;
+    assert_parameters(&rt, rt.alloc(), 5000)
 }

@@ -2,7 +2,7 @@
 
 use super::mime::assert_read_again;
 use super::recorder::{Source, fragment_text};
-use super::{assert_printed, assert_same};
+use super::{assert_printed, assert_same, assert_that};
 use data_url::DataUrl;
 use data_url::laws::{encoding_first, fragment_again};
 use std::alloc::{AllocError, Global};
@@ -212,8 +212,9 @@ fn beginnings(rt: HostRuntime) -> Result<(), Fail> {
 fn the_record_of_an_empty_header(rt: HostRuntime) -> Result<(), Fail> {
     let url = DataUrl::process(rt.alloc(), "data:,Hello%20World!")?;
     let mime = url.mime_type();
-    assert!(rt; mime.matches("text", "plain"));
-    assert!(rt; mime.get_parameter("charset") == Some("US-ASCII"));
+    assert_that(&rt, "type", mime.matches("text", "plain"));
+    let charset = mime.get_parameter("charset");
+    assert_that(&rt, "charset", charset == Some("US-ASCII"));
     encoding_first("Hello%20World!".as_bytes());
     fragment_again("a\t`\u{e9}");
     Ok(())

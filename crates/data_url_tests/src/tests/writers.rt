@@ -1,7 +1,7 @@
 //! Printing to a writer that fails, and under options.
 
-use super::assert_printed;
 use super::sizes::with_parameters;
+use super::{assert_printed, assert_that};
 use data_url::DataUrlError;
 use data_url::forgiving_base64::{DecodeError, DecodeToVecError, decode_to_vec};
 use data_url::mime::{Mime, MimeFromStrError};
@@ -50,10 +50,10 @@ fn assert_display<D: fmt::Display>(
     assert_printed(rt, alloc, wanted, &format_args!("{value:#}"), wanted)?;
     assert_printed(rt, alloc, wanted, &format_args!("{value:>99.1}"), wanted)?;
     let (is_written, left) = write_to(value, PLENTY);
-    assert!(rt; is_written & (left < PLENTY), "{wanted}");
+    assert_that(rt, wanted, is_written & (left < PLENTY));
     for fewer in left..PLENTY {
         let (is_written, _) = write_to(value, PLENTY - fewer - 1);
-        assert!(rt; !is_written, "{wanted}");
+        assert_that(rt, wanted, !is_written);
     }
     Ok(())
 }
@@ -105,7 +105,7 @@ fn assert_fault(
             assert_display(rt, alloc, &error, whole.as_str())
         }
         _ => {
-            assert!(rt; false, "{text}");
+            assert_that(rt, text, false);
             Ok(())
         }
     }
@@ -146,7 +146,7 @@ fn errors_of_mime_types(rt: HostRuntime) -> Result<(), Fail> {
             let error = MimeFromStrError::Parsing(error);
             assert_display(&rt, alloc, &error, "invalid mime type")?;
         }
-        _ => assert!(rt; false),
+        _ => assert_that(&rt, "text", false),
     }
     Ok(())
 }
