@@ -1,6 +1,6 @@
 //! `base64` over readers that cut their text anywhere, and a picture in base64.
 
-use super::peers::{BYTEWISE, Peers, SOUND, outcome_of};
+use super::peers::{BYTEWISE, Peers, SOUND, assert_that, outcome_of};
 use std::alloc::{AllocError, Global};
 use std::process::Abort;
 use std::test::Fail;
@@ -79,8 +79,9 @@ fn assert_reads(
     let text = format!(in alloc; "{sound}!{after}")?;
     let ended = outcome_of(rt, alloc, "base64", text.as_bytes(), by_pieces(piece))?;
     let reads = sound.len().checked_div(piece);
-    assert!(rt; ended.reads.checked_sub(1) == reads, "{groups}, {piece}");
-    assert!(rt; ended.written.as_slice() == bytes.as_bytes() && ended.status == 1);
+    assert_that(rt, "reads", ended.reads.checked_sub(1) == reads);
+    assert_that(rt, "bytes", ended.written.as_slice() == bytes.as_bytes());
+    assert_that(rt, "status", ended.status == 1);
     Ok(())
 }
 
@@ -118,8 +119,9 @@ fn assert_few_writes(
     let text = "QUJD".repeat(alloc, groups)?;
     let bytes = "ABC".repeat(alloc, groups)?;
     let ended = outcome_of(rt, alloc, "base64", text.as_bytes(), by_pieces(piece))?;
-    assert!(rt; ended.written.as_slice() == bytes.as_bytes());
-    assert!(rt; ended.writes <= bytes.len() / 4000 + 1, "{groups}, {piece}");
+    assert_that(rt, "bytes", ended.written.as_slice() == bytes.as_bytes());
+    let most = (bytes.len() / 4000).saturating_add(1);
+    assert_that(rt, "writes", ended.writes <= most);
     Ok(())
 }
 
@@ -145,15 +147,21 @@ const AFTER_ROWS: [u8; 20] = [
     126, 98, 70, 104, 243, 135, 190, 33, 0, 0, 0, 0, 73, 69, 78, 68, 174, 66, 96, 130,
 ];
 
+/// Appends a row of the picture.
+fn push_row(file: &mut Vec<u8>, row: u8) -> Result<(), AllocError> {
+    file.push(0)?;
+    for column in 0..102u8 {
+        file.push(row.wrapping_add(column))?;
+    }
+    Ok(())
+}
+
 /// A picture, as a PNG file.
 fn picture(alloc: Global) -> Result<Vec<u8>, AllocError> {
     let mut file = Vec::new(alloc);
     file.extend_from_slice(&BEFORE_ROWS)?;
     for row in 0..103u8 {
-        file.push(0)?;
-        for column in 0..102u8 {
-            file.push(row + column)?;
-        }
+        push_row(&mut file, row)?;
     }
     file.extend_from_slice(&AFTER_ROWS)?;
     Ok(file)
@@ -161,15 +169,23 @@ fn picture(alloc: Global) -> Result<Vec<u8>, AllocError> {
 
 const ALPHABET: [u8; 64] = *b"ABCDEFGHIJKLMNOPQRSTUVWXYZabcdefghijklmnopqrstuvwxyz0123456789+/";
 
+/// The symbol of the last six bits of a byte.
+fn symbol(bits: u8) -> u8 {
+    ALPHABET.get(usize::from(bits & 63)).copied().unwrap_or(0)
+}
+
 /// The base64 of bytes whose number is a multiple of three.
 fn encoded(alloc: Global, bytes: &[u8]) -> Result<Vec<u8>, AllocError> {
     let mut text = Vec::new(alloc);
-    for group in bytes.chunks_exact(3) {
-        let [first, second, third] = [group[0] as usize, group[1] as usize, group[2] as usize];
-        text.push(ALPHABET[first / 4])?;
-        text.push(ALPHABET[first % 4 * 16 + second / 16])?;
-        text.push(ALPHABET[second % 16 * 4 + third / 64])?;
-        text.push(ALPHABET[third % 64])?;
+    for group in bytes.chunks(3) {
+        if let [first, second, third] = group {
+            text.extend_from_slice(&[
+                symbol(*first >> 2),
+                symbol(*first << 4 | *second >> 4),
+                symbol(*second << 2 | *third >> 6),
+                symbol(*third),
+            ])?;
+        }
     }
     Ok(text)
 }
@@ -177,13 +193,13 @@ fn encoded(alloc: Global, bytes: &[u8]) -> Result<Vec<u8>, AllocError> {
 #[test]
 fn a_picture(rt: HostRuntime) -> Result<(), Fail> {
     let file = picture(rt.alloc())?;
-    assert!(rt; file.len() == 10677);
+    assert_that(&rt, "file", file.len() == 10677);
     let mut url = Vec::new(rt.alloc());
     url.extend_from_slice("data:image/png;base64,".as_bytes())?;
     url.extend_from_slice(&encoded(rt.alloc(), &file)?)?;
     let body = outcome_of(&rt, rt.alloc(), "body", &url, SOUND)?;
-    assert!(rt; body.status == 0 && body.written == file);
+    body.assert_is(&rt, "picture", file.as_slice(), "", 0);
     let mime = outcome_of(&rt, rt.alloc(), "mime", &url, SOUND)?;
-    assert!(rt; mime.written.as_slice() == "image/png\n".as_bytes());
+    mime.assert_is(&rt, "picture", b"image/png\n", "", 0);
     Ok(())
 }

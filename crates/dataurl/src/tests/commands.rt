@@ -1,6 +1,6 @@
 //! Each command, inputs that are not valid, and the words of the command line.
 
-use super::peers::{SOUND, outcome_of, status_by_calls};
+use super::peers::{SOUND, assert_that, outcome_of, status_by_calls};
 use crate::fault::{Fault, report};
 use crate::program::execute;
 use std::alloc::Global;
@@ -55,7 +55,7 @@ fn assert_rows(rt: &impl Abort, alloc: Global, rows: &[Row]) -> Result<(), Fail>
         let ended = outcome_of(rt, alloc, words, input.as_bytes(), SOUND)?;
         let about = format!(in alloc; "{words}: {input}")?;
         ended.assert_is(rt, about.as_str(), written.as_bytes(), line, *status);
-        assert!(rt; (ended.reads == 0) == (*status == 2), "{about}");
+        assert_that(rt, about.as_str(), (ended.reads == 0) == (*status == 2));
     }
     Ok(())
 }
@@ -86,8 +86,9 @@ fn assert_unread(
     let mut written = Vec::new(alloc);
     let mut said = Vec::new(alloc);
     let ended = execute(alloc, words, &mut reader, &mut written, &mut said);
-    assert!(rt; ended == status && written.is_empty() && reader.len() == 7);
-    assert!(rt; said.as_slice() == line.as_bytes());
+    assert_that(rt, line, ended == status && written.is_empty());
+    assert_that(rt, line, reader.len() == 7);
+    assert_that(rt, line, said.as_slice() == line.as_bytes());
 }
 
 #[test]
@@ -102,24 +103,25 @@ fn words_that_are_missing_by_calls(rt: HostRuntime) {
     let mut written = Vec::new(rt.alloc());
     let mut line = Vec::new(rt.alloc());
     let status = status_by_calls(rt.alloc(), &[], &mut reader, &mut written, &mut line);
-    assert!(rt; status == 2 && written.is_empty());
-    assert!(rt; line.as_slice() == USAGE.as_bytes());
+    assert_that(&rt, "status", status == 2 && written.is_empty());
+    assert_that(&rt, "line", line.as_slice() == USAGE.as_bytes());
+}
+
+/// Asserts the line of a fault on standard error, and the status.
+fn assert_line(rt: &impl Abort, alloc: Global, fault: &Fault, line: &str, status: u8) {
+    let mut said = Vec::new(alloc);
+    assert_that(rt, line, report(fault, &mut said) == status);
+    assert_that(rt, line, said.as_slice() == line.as_bytes());
 }
 
 #[test]
-fn lines_of_faults(rt: HostRuntime) -> Result<(), Fail> {
-    for (fault, line, status) in [
-        (Fault::NotADataUrl, "not a valid data url\n", 1),
-        (Fault::NoComma, COMMA, 1),
-        (Fault::Mime, "invalid mime type\n", 1),
-        (Fault::NotUtf8, "input is not UTF-8\n", 1),
-        (Fault::Memory, "out of memory\n", 3),
-        (Fault::Read, "read failed\n", 3),
-        (Fault::Write, "write failed\n", 3),
-    ] {
-        let mut said = Vec::new(rt.alloc());
-        assert!(rt; report(&fault, &mut said) == status, "{line}");
-        assert!(rt; said.as_slice() == line.as_bytes(), "{line}");
-    }
-    Ok(())
+fn lines_of_faults(rt: HostRuntime) {
+    let alloc = rt.alloc();
+    assert_line(&rt, alloc, &Fault::NotADataUrl, "not a valid data url\n", 1);
+    assert_line(&rt, alloc, &Fault::NoComma, COMMA, 1);
+    assert_line(&rt, alloc, &Fault::Mime, "invalid mime type\n", 1);
+    assert_line(&rt, alloc, &Fault::NotUtf8, "input is not UTF-8\n", 1);
+    assert_line(&rt, alloc, &Fault::Memory, "out of memory\n", 3);
+    assert_line(&rt, alloc, &Fault::Read, "read failed\n", 3);
+    assert_line(&rt, alloc, &Fault::Write, "write failed\n", 3);
 }

@@ -1,6 +1,6 @@
 //! Each read and each write that fails.
 
-use super::peers::{BYTEWISE, Ended, Peers, SOUND, outcome_of};
+use super::peers::{BYTEWISE, Ended, Peers, SOUND, assert_that, outcome_of};
 use std::alloc::Global;
 use std::process::Abort;
 use std::test::Fail;
@@ -153,7 +153,7 @@ fn assert_each_read(rt: &impl Abort, alloc: Global, case: Case, reads: usize) ->
         };
         let len = written_before(case.words, failing_read);
         let ended = assert_fails(rt, alloc, case, peers, len, "read failed\n")?;
-        assert!(rt; ended.reads == failing_read, "{}", case.words);
+        assert_that(rt, case.words, ended.reads == failing_read);
     }
     Ok(())
 }
@@ -174,7 +174,7 @@ fn assert_each_write(
         };
         let len = failing_write.saturating_sub(1);
         let ended = assert_fails(rt, alloc, case, peers, len, "write failed\n")?;
-        assert!(rt; ended.writes == failing_write, "{}", case.words);
+        assert_that(rt, case.words, ended.writes == failing_write);
     }
     Ok(())
 }
@@ -182,8 +182,8 @@ fn assert_each_write(
 /// Asserts how a command ends if each of its reads, and each of its writes, fails in turn.
 fn assert_failing(rt: &impl Abort, alloc: Global, case: Case) -> Result<(), Fail> {
     let sound = outcome_of(rt, alloc, case.words, case.input, BYTEWISE)?;
-    assert!(rt; sound.written.as_slice() == case.output, "{}", case.words);
-    assert!(rt; sound.writes == case.output.len(), "{}", case.words);
+    assert_that(rt, case.words, sound.written.as_slice() == case.output);
+    assert_that(rt, case.words, sound.writes == case.output.len());
     assert_each_read(rt, alloc, case, sound.reads)?;
     assert_each_write(rt, alloc, case, false, sound.writes)?;
     assert_each_write(rt, alloc, case, true, sound.writes)
@@ -227,7 +227,8 @@ fn each_call_fails_in_turn(rt: HostRuntime) -> Result<(), Fail> {
 /// Asserts how a command with a large output ends if each of its writes fails in turn: after fewer bytes than the output has.
 fn assert_few_writes_fail(rt: &impl Abort, alloc: Global, case: Case) -> Result<(), Fail> {
     let sound = outcome_of(rt, alloc, case.words, case.input, SOUND)?;
-    assert!(rt; sound.status == 0 && sound.writes > 2 && sound.writes < 10);
+    assert_that(rt, case.words, sound.status == 0);
+    assert_that(rt, case.words, sound.writes > 2 && sound.writes < 10);
     for failing_write in 1..=sound.writes {
         let peers = Peers {
             failing_write,
@@ -235,7 +236,7 @@ fn assert_few_writes_fail(rt: &impl Abort, alloc: Global, case: Case) -> Result<
         };
         let ended = outcome_of(rt, alloc, case.words, case.input, peers)?;
         let len = ended.written.len();
-        assert!(rt; len < case.output.len(), "{}", case.words);
+        assert_that(rt, case.words, len < case.output.len());
         assert_fails(rt, alloc, case, peers, len, "write failed\n")?;
     }
     Ok(())

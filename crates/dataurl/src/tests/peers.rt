@@ -102,6 +102,11 @@ pub(super) struct Ended {
     pub(super) writes: usize,
 }
 
+/// Asserts a fact about a text. A call is cheaper to prove than `assert!`.
+pub(super) fn assert_that(rt: &impl Abort, about: &str, is_right: bool) {
+    assert!(rt; is_right, "{about}");
+}
+
 impl Ended {
     /// Asserts what was written on standard output and on standard error, and the status.
     pub(super) fn assert_is(
@@ -112,9 +117,9 @@ impl Ended {
         line: &str,
         status: u8,
     ) {
-        assert!(rt; self.written.as_slice() == written, "{about}");
-        assert!(rt; self.line.as_slice() == line.as_bytes(), "{about}");
-        assert!(rt; self.status == status, "{about}");
+        assert_that(rt, about, self.written.as_slice() == written);
+        assert_that(rt, about, self.line.as_slice() == line.as_bytes());
+        assert_that(rt, about, self.status == status);
     }
 }
 
@@ -193,6 +198,6 @@ pub(super) fn outcome_of(
 ) -> Result<Ended, Fail> {
     let ended = outcome_by(alloc, words, input, peers, false)?;
     let by_calls = outcome_by(alloc, words, input, peers, true)?;
-    assert!(rt; ended == by_calls, "{words}");
+    assert_that(rt, words, ended == by_calls);
     Ok(ended)
 }

@@ -1,6 +1,6 @@
 //! Inputs of every size: one byte at a time, around the size of the buffer, and large.
 
-use super::peers::{BYTEWISE, Peers, SOUND, outcome_of};
+use super::peers::{BYTEWISE, Peers, SOUND, assert_that, outcome_of};
 use std::alloc::Global;
 use std::process::Abort;
 use std::test::Fail;
@@ -105,7 +105,7 @@ fn assert_read_fails(
     };
     let ended = outcome_of(rt, alloc, words, input.as_bytes(), peers)?;
     ended.assert_is(rt, words, written.as_bytes(), "read failed\n", 3);
-    assert!(rt; ended.reads == 5001, "{words}");
+    assert_that(rt, words, ended.reads == 5001);
     Ok(())
 }
 
@@ -133,15 +133,21 @@ fn a_thousand_parameters(rt: HostRuntime) -> Result<(), Fail> {
     assert_written(&rt, alloc, "type", text.as_str(), line.as_str(), SOUND)
 }
 
+/// Asserts that there are few writes of a body of this length.
+fn assert_few_writes(rt: &impl Abort, alloc: Global, len: usize) -> Result<(), Fail> {
+    let body = "x".repeat(alloc, len)?;
+    let url = format!(in alloc; "data:,{body}")?;
+    let ended = outcome_of(rt, alloc, "body", url.as_bytes(), SOUND)?;
+    assert_that(rt, "body", ended.written.as_slice() == body.as_bytes());
+    let most = (len / 2048).saturating_add(2);
+    assert_that(rt, "writes", ended.writes <= most);
+    Ok(())
+}
+
 #[test]
 fn few_writes_of_bodies(rt: HostRuntime) -> Result<(), Fail> {
-    let alloc = rt.alloc();
     for len in [0, 1, 4095, 4096, 4097, 8191, 8192, 8193, 20000] {
-        let body = "x".repeat(alloc, len)?;
-        let url = format!(in alloc; "data:,{body}")?;
-        let ended = outcome_of(&rt, alloc, "body", url.as_bytes(), SOUND)?;
-        assert!(rt; ended.written.as_slice() == body.as_bytes(), "{len}");
-        assert!(rt; ended.writes <= len / 2048 + 2, "{len}");
+        assert_few_writes(&rt, rt.alloc(), len)?;
     }
     Ok(())
 }
