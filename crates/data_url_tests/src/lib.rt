@@ -1,4 +1,4 @@
-//! Worked examples of the library and of its callers, as tests: whole texts, with answers from the standards' rules.
+//! Worked examples of the library, as tests: whole texts, with answers from the standards' rules.
 #![tactic(auto)]
 
 #[cfg(test)]

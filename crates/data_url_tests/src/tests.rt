@@ -4,7 +4,6 @@
 
 mod base64;
 mod base64_blocks;
-mod callers;
 mod cuts;
 mod mime;
 mod pieces;

@@ -7,3 +7,5 @@ pub mod fetch;
 pub mod inliner;
 pub mod loader;
 pub mod negotiation;
+#[cfg(test)]
+mod tests;

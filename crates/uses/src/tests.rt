@@ -1,6 +1,11 @@
-//! The callers in `crates/uses`.
+//! Worked examples of the callers.
 
-use super::{assert_same, assert_that};
+use crate::body::{append_body, body_len};
+use crate::chunks::feed_chunks;
+use crate::fetch::{FetchError, Reason, content_length, fetch};
+use crate::inliner::{Part, inline};
+use crate::loader::{LoadError, load};
+use crate::negotiation::best;
 use data_url::DataUrl;
 use data_url::forgiving_base64::Decoder;
 use data_url::mime::Mime;
@@ -8,12 +13,17 @@ use std::alloc::{AllocError, Global};
 use std::io::{self, Write};
 use std::process::Abort;
 use std::test::Fail;
-use uses::body::{append_body, body_len};
-use uses::chunks::feed_chunks;
-use uses::fetch::{FetchError, Reason, content_length, fetch};
-use uses::inliner::{Part, inline};
-use uses::loader::{LoadError, load};
-use uses::negotiation::best;
+
+/// Asserts a fact about a text. A call is cheaper to prove than `assert!`.
+fn assert_that(rt: &impl Abort, about: &str, is_right: bool) {
+    let about = about.get(..60).unwrap_or(about);
+    assert!(rt; is_right, "{about}");
+}
+
+/// Asserts that bytes are as wanted.
+fn assert_same(rt: &impl Abort, about: &str, found: &[u8], wanted: &[u8]) {
+    assert_that(rt, about, found == wanted);
+}
 
 /// A sink that has room for a number of bytes, takes one at a time, and then fails.
 #[derive(Drop)]
