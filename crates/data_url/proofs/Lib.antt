@@ -1,4 +1,5 @@
 pub mod api
 pub mod examples
+pub mod facts
 pub mod runs
 pub mod texts

@@ -4,3 +4,4 @@ pub mod Vectors
 pub mod Steps
 pub mod Holding
 pub mod WholeTexts
+pub mod Spaces

@@ -14,7 +14,7 @@
 --   DataUrl, Decoder, MimeType, Pieces, Looks   what contracts see of each type
 --   Run         the calls of a closure
 --   Errors      when each error is returned, and its message
---   Facts, Laws what the functions of `facts` and `laws` prove about the definitions above
+--   Laws        what the functions of `laws` prove about the definitions above
 --
 -- Steps has the definitions for private functions; no contract of a public function uses them.
 pub mod Base64
@@ -22,7 +22,6 @@ pub mod CodePoints
 pub mod DataUrl
 pub mod Decoder
 pub mod Errors
-pub mod Facts
 pub mod Fetch
 pub mod Laws
 pub mod Looks

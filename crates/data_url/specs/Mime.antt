@@ -42,12 +42,6 @@ abbrev pub DoesNotBegin : (ℕ → Bool) → List ℕ → Type 0
 DoesNotBegin p [] = Unit {0}
 DoesNotBegin p (c ∷ t) = p c ≡ false
 
--- the text is empty, or its last code point does not pass
-abbrev pub DoesNotEnd : (ℕ → Bool) → List ℕ → Type 0
-DoesNotEnd p [] = Unit {0}
-DoesNotEnd p (c ∷ []) = p c ≡ false
-DoesNotEnd p (c ∷ d ∷ t) = DoesNotEnd p (d ∷ t)
-
 -- the text is not empty, and has only HTTP token code points
 abbrev pub is_token_text : List ℕ → Bool
 is_token_text [] = false

@@ -83,9 +83,15 @@ pub(crate) fn long_span(class: Class, bytes: &[u8]) -> usize
     // For each low half of a byte, the bits of the columns in which such a byte may be outside the class. A class whose
     // runs are short in most texts has all bits.
     let others = match class {
-        Class::Quotable => [1, 1, 1, 1, 1, 1, 1, 1, 1, 1, 1, 1, 1, 1, 1, 65],
-        Class::Unquoted => [1, 1, 1, 1, 1, 1, 1, 1, 1, 1, 1, 5, 1, 1, 1, 65],
-        Class::PlainPath => [1, 1, 1, 3, 1, 1, 1, 1, 1, 1, 1, 1, 3, 1, 1, 69],
+        Class::Quotable => [
+            129, 129, 129, 129, 129, 129, 129, 129, 129, 129, 129, 129, 129, 129, 129, 193,
+        ],
+        Class::Unquoted => [
+            129, 129, 129, 129, 129, 129, 129, 129, 129, 129, 129, 133, 129, 129, 129, 193,
+        ],
+        Class::PlainPath => [
+            129, 129, 129, 131, 129, 129, 129, 129, 129, 129, 129, 129, 131, 129, 129, 197,
+        ],
         Class::Unescaped => [0, 0, 2, 0, 0, 0, 0, 0, 0, 0, 0, 0, 16, 0, 0, 0],
         _ => [255; 16],
     };

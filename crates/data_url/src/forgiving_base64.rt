@@ -11,6 +11,7 @@ mod alphabet;
 mod blocks;
 mod decode;
 mod held;
+mod spaced;
 mod whole;
 
 pub use decode::Decoder;

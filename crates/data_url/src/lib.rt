@@ -11,7 +11,6 @@ mod ascii;
 mod body;
 mod classes;
 pub mod escapes;
-mod facts;
 pub mod forgiving_base64;
 mod fragment;
 mod header;

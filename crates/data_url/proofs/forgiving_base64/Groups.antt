@@ -1,15 +1,13 @@
 -- Groups of four symbols, and texts that are fed in two parts.
-use Rattle.std.proofs.Common.{◌<◌, Bool, suc, zero, set, sym, get_or, take, drop, refl, ap, ap₂, arith, length-take}
+use Rattle.std.proofs.Common.{suc, zero, sym, get_or, take, drop, refl, ap, ap₂, arith, length-take}
 use Rattle.std.proofs.Common.{get_or-take, take-append-drop, append-nil, take-take, take_at}
 use Rattle.std.proofs.Common.{length-take-le, ◌∙◌, false, min, None, take-add, append_assoc, length-append, ◌/◌}
 use Rattle.std.proofs.Common.{◌≡◌, ℕ, ◌+◌, ◌*◌, ◌≤◌, true, ◌&&◌, ◌||◌, List, [], ◌∷◌, ◌++◌, map, length, ◌-◌}
 use Rattle.std.{proofs.Math.Seq.{take-append-add}, proofs.lemmas.Bool.{and_parts}, specs.Char.{is_ascii_whitespace}}
 use Rattle.std.{proofs.lemmas.List.Elements.{filter-append}, proofs.lemmas.List.Folds.{list_all-append}}
 use Rattle.std.proofs.lemmas.List.Sums.{list_all-from_AllPass, prefix_len-le-length, prefix_len_passes}
-use Rattle.std.proofs.lemmas.List.{length-map, take_rest, map-append, length-replicate, take_more}
-use Rattle.std.proofs.lemmas.List.{take_more_set, take-set}
+use Rattle.std.proofs.lemmas.List.{length-map, take_rest, map-append, length-replicate}
 use Rattle.std.specs.List.{list_all, prefix_len, filter, list_any}
-use mir.Val.{bool_byte}
 use Rattle.data_url.specs.Base64.{decoded, first_fault, left_padding, left_symbols, left_text}
 use Rattle.data_url.specs.Base64.{group_bytes, group_number, groups, is_symbol, symbol_value, values, after_groups}
 use Rattle.data_url.specs.{Laws.{GoesOn, TwoFeeds}, Steps.Lanes.{DecodesFront}}
@@ -71,42 +69,6 @@ symbols_kept : (t : List ℕ) → list_all is_symbol (filter is_symbol t) ≡ tr
 symbols_kept [] = refl
 symbols_kept (c ∷ t) = grind (arith, symbols_kept t)
 
--- a text of whole groups and white space, if its symbols are those that a row begins with, and the row was decoded and
--- put after n bytes
-pub row_fills : (old new bytes row text : List ℕ) (n m : ℕ) → n + 16 ≤ length old
-    → take (n + 16) new ≡ take n old ++ bytes → DecodesFront row bytes → m ≤ 4 → 4 * m ≤ length row
-    → list_all is_symbol_or_space text ≡ true → filter is_symbol text ≡ take (4 * m) row
-    → Fills (take n old) text (take (n + 3 * m) new)
-row_fills old new bytes row text n m room put decodes few long spaced symbols =
-    let held = take n old in
-    let size : n + 3 * m ≡ length held + 3 * m = omega (arith, length-take-le n old (omega arith)) in
-    let are = decodes m few (ap (list_all is_symbol) (sym symbols) ∙ symbols_kept text) in
-    record {
-      whole = record {
-        spaced = spaced;
-        whole = omega (arith, ap length symbols, length-take-le (4 * m) row long);
-      };
-      held_are = cc (
-        take-take (n + 3 * m) (n + 16) new (omega arith),
-        put,
-        size,
-        take-append-add held bytes (3 * m),
-        are,
-        symbols,
-      );
-    }
-
--- one more byte, which is a symbol or white space: a symbol is put after the first n
-pub gathers : (text symbols : List ℕ) (at n k : ℕ) (is : Bool) → at < length text → n < length symbols
-    → is ≡ is_symbol (get_or text at 0) → k ≡ bool_byte is → take n symbols ≡ filter is_symbol (take at text)
-    → (k ≤ 1) × (take (n + k) (set symbols n (get_or text at 0)) ≡ filter is_symbol (take (at + 1) text))
-gathers text symbols at n k true inside room kind e same =
-    let more = take_more text at 0 inside in
-    (omega (arith, e), grind (arith, more, filter-append, take_more_set))
-gathers text symbols at n k false inside room kind e same =
-    let more = take_more text at 0 inside in
-    (omega (arith, e), grind (arith, more, filter-append, take-set, append-nil))
-
 -- no bytes are read
 pub fills_nothing : (held : List ℕ) → Fills held [] held
 unfolding groups
@@ -165,8 +127,12 @@ leaves_then {rest = rest} n l f = rw (take_rest rest n) (record {
   fills = fills_then l.front (take n rest) l.fills f;
 })
 
+-- a row of a text has sixteen bytes
+pub row_long : {row : List ℕ} (text : List ℕ) → row ≡ take 16 text → 16 ≤ length text → length row ≡ 16
+row_long text is h = ap length is ∙ length-take-le 16 text h
+
 -- the symbols of the groups that a text begins with, and of white space after them, are those of its first row
-front_symbols : (row text : List ℕ) (m k : ℕ) → row ≡ take 16 text → m ≤ 4
+pub front_symbols : (row text : List ℕ) (m k : ℕ) → row ≡ take 16 text → m ≤ 4
     → list_all is_symbol (take (4 * m) row) ≡ true → list_all is_ascii_whitespace (take k (drop (4 * m) text)) ≡ true
     → (list_all is_symbol_or_space (take (4 * m + k) text) ≡ true)
     × (filter is_symbol (take (4 * m + k) text) ≡ take (4 * m) row)
@@ -192,17 +158,29 @@ front_symbols row text m k is few all spaces =
       ),
     )
 
--- the groups that the rest begins with are read, and white space after them, if its first row was decoded and put after
--- n bytes
-pub row_leaves : {held text rest : List ℕ} (old new bytes row : List ℕ) (n m k : ℕ)
-    → Leaves held text rest (take n old) → n + 16 ≤ length old → row ≡ take 16 rest → 16 ≤ length rest
-    → take (n + 16) new ≡ take n old ++ bytes → DecodesFront row bytes → m ≤ 4
-    → list_all is_symbol (take (4 * m) row) ≡ true → list_all is_ascii_whitespace (take k (drop (4 * m) rest)) ≡ true
-    → Leaves held text (take (length rest - (4 * m + k)) (drop (4 * m + k) rest)) (take (n + 3 * m) new)
-row_leaves {rest = rest} old new bytes row n m k before room is long put decodes few all spaces =
-    let front = front_symbols row rest m k is few all spaces in
-    let size : 4 * m ≤ length row = omega (arith, ap length is, length-take-le 16 rest long) in
-    leaves_then (4 * m + k) before (row_fills old new bytes row _ n m room put decodes few size front.0 front.1)
+-- the groups of t bytes of the rest are read, if a row that begins with their symbols was decoded and put after n bytes
+pub row_leaves : {held text rest : List ℕ} (old new bytes row : List ℕ) (n m t : ℕ)
+    → Leaves held text rest (take n old) → n + 16 ≤ length old → take (n + 16) new ≡ take n old ++ bytes
+    → DecodesFront row bytes → m ≤ 4 → length row ≡ 16
+    → (list_all is_symbol_or_space (take t rest) ≡ true) × (filter is_symbol (take t rest) ≡ take (4 * m) row)
+    → Leaves held text (take (length rest - t) (drop t rest)) (take (n + 3 * m) new)
+row_leaves {rest = rest} old new bytes row n m t before room put decodes few long are =
+    let size : n + 3 * m ≡ length (take n old) + 3 * m = omega (arith, length-take-le n old (omega arith)) in
+    let each = ap (list_all is_symbol) (sym are.1) ∙ symbols_kept (take t rest) in
+    leaves_then t before (record {
+      whole = record {
+        spaced = are.0;
+        whole = omega (arith, ap length are.1, length-take-le (4 * m) row (omega (arith, long)));
+      };
+      held_are = cc (
+        take-take (n + 3 * m) (n + 16) new (omega arith),
+        put,
+        size,
+        take-append-add (take n old) bytes (3 * m),
+        decodes m few each,
+        are.1,
+      );
+    })
 
 -- all that was read
 pub leaves_read : {held text rest held' : List ℕ} → Leaves held text rest held'

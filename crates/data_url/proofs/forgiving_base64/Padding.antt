@@ -8,7 +8,8 @@ use Rattle.std.proofs.lemmas.Bool.{cases_Bool, false≢true, eqb-true, false_fro
 use Rattle.std.proofs.lemmas.List.{length-map, drop-map, get_or_at, length_push, length-replicate}
 use Rattle.std.specs.Char.{is_ascii_whitespace}
 use Rattle.data_url.specs.Base64.{before_place, first_fault, is_fault, is_symbol, is_valid, without_padding, kind_of}
-use Rattle.data_url.specs.{Base64.{complete_bytes}, Facts.{IsFirstFault, IsSymbolsAndPadding, PaddingFits}}
+use Rattle.data_url.specs.{Base64.{complete_bytes}}
+use Rattle.data_url.proofs.facts.Definitions.{IsFirstFault, IsSymbolsAndPadding, PaddingFits}
 use Rattle.data_url.specs.Base64.{groups, values, without_last_padding, Kind, after_groups, without_whitespace}
 use Rattle.data_url.specs.{Mime.{Every}, declared.forgiving_base64.InvalidBase64Details.TheVariants.{UnexpectedSymbol}}
 use Rattle.data_url.specs.declared.forgiving_base64.InvalidBase64Details.TheVariants.{AlphabetSymbolAfterPadding}

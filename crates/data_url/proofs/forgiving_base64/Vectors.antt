@@ -9,15 +9,15 @@ use Rattle.std.proofs.lemmas.Bool.{agree_below_at, and_parts, eqb-true, ltb-true
 use Rattle.std.proofs.lemmas.List.{get_or-map, length-map, map-append, nil_from_length, take-map}
 use Rattle.std.proofs.lemmas.Nat.{and_le_r, and_le_l, mod-pow-add}
 use Rattle.std.proofs.lemmas.Simd.{length-swz_l, pick_l_whole, swz_l}
-use Rattle.std.proofs.lemmas.Simd.{SwzOk-from_below, get_or_narrower, bitmask_splat}
+use Rattle.std.proofs.lemmas.Simd.{SwzOk-from_below, get_or_narrower}
 use Rattle.std.proofs.lemmas.Simd.{zip2_of_maps, Each1-get_or, SwzOk, map-map, get_or-swz_l_below}
 use Rattle.std.specs.Char.{is_ascii_whitespace as std_whitespace, is_ascii_whitespace}
 use Rattle.data_url.specs.Base64.{is_symbol, symbol_value, group_bytes, group_number, groups, after_groups}
-use Rattle.data_url.specs.Steps.{Groups.{is_symbol_or_space}, Lanes.{DecodesFront, mark_of, numbers, value_of}}
+use Rattle.data_url.specs.Steps.Lanes.{DecodesFront, numbers, value_of}
 use Rattle.data_url.specs.declared.forgiving_base64.alphabet.TheConstants.{VALUES}
 use Rattle.data_url.proofs.forgiving_base64.Padding.{groups-append, length-after_groups}
 use lib.Bits.{or_add_and}
-use lib.Lanes.{Each1, digits_l, number_l, pair_sums, pick_l, products, sel_l, zip2, mask_l, top}
+use lib.Lanes.{Each1, digits_l, number_l, pair_sums, pick_l, products, sel_l, zip2, mask_l}
 
 -- The table of symbols is the alphabet.
 
@@ -31,10 +31,6 @@ entry_symbol b l h =
 -- an entry is below the mark exactly at a symbol
 pub symbol_is : (b : ℕ) → b < 256 → ltb (get_or VALUES b 0) 64 ≡ is_symbol b
 symbol_is b l = agree_below_at (λ b. ltb (get_or VALUES b 0) 64) is_symbol 256 b refl l
-
--- an entry is the mark exactly at a byte that is neither a symbol nor white space
-pub symbol_or_space_is : (b : ℕ) → b < 256 → not (eqb (get_or VALUES b 0) 64) ≡ is_symbol_or_space b
-symbol_or_space_is b l = agree_below_at (λ b. not (eqb (get_or VALUES b 0) 64)) is_symbol_or_space 256 b refl l
 
 -- the standard library's class of white space is that of forgiving base64
 pub space_is : (b : ℕ) → b < 256 → std_whitespace b ≡ is_ascii_whitespace b
@@ -271,17 +267,6 @@ differs a b = not (eqb a b)
 abbrev pub is_other : ℕ → Bool
 is_other b = not (is_symbol b)
 
--- the mask of the marks of 16 bytes that are not zero is the mask of the bytes that are no symbols
-pub others_is : (v marks : List ℕ) → length v ≡ 16 → Each1 (Fits w8) v → marks ≡ map mark_of v
-    → mask_l (map (top 7)
-    (zip2 (λ a b. cond (differs a b) 255 0) marks
-    (0 ∷ 0 ∷ 0 ∷ 0 ∷ 0 ∷ 0 ∷ 0 ∷ 0 ∷ 0 ∷ 0 ∷ 0 ∷ 0 ∷ 0 ∷ 0 ∷ 0 ∷ 0 ∷ []))) % 2 ^ 64 ≡ mask_l (map is_other v)
-others_is v marks long fits e =
-    let agree = λ (b : ℕ) (l : b < 256). agree_below_at (λ b. differs (mark_of b) 0) is_other 256 b refl l in
-    let same = map_agree (λ x. differs (mark_of x) 0) is_other agree v fits in
-    let size = ap length e ∙ length-map v mark_of ∙ long in
-    cc (bitmask_splat w8 differs marks 16 0 size (omega arith), map-map (λ x. differs x 0) mark_of v)
-
 -- Rows of a text
 
 -- a row that is within the text has 16 bytes
@@ -308,10 +293,14 @@ front_of_mask (suc k) [] is e = refl
 front_of_mask (suc k) (x ∷ v) is e =
     grind (arith, front_of_mask k v {mask = others_mask v} refl, mod-pow-add (others_mask (x ∷ v)) k 1)
 
--- the mask is zero exactly if all bytes are symbols
-mask_zero : (v : List ℕ) → eqb (others_mask v) 0 ≡ list_all is_symbol v
-mask_zero [] = refl
-mask_zero (x ∷ v) = grind (arith, mask_zero v, cases_eq, ne_eqb)
+-- the mask of the items that do not pass a test is zero exactly if all pass
+pub mask_zero : (p : ℕ → Bool) (v : List ℕ) → eqb (mask_l (map (λ b. not (p b)) v)) 0 ≡ list_all p v
+mask_zero p [] = refl
+mask_zero p (x ∷ v) = grind (arith, mask_zero p v, cases_eq, ne_eqb)
+
+-- the mask of the bytes that are no symbols is zero exactly if all bytes are symbols
+others_zero : (v : List ℕ) → eqb (others_mask v) 0 ≡ list_all is_symbol v
+others_zero v = mask_zero is_symbol v
 
 -- the bitwise or of two numbers is zero exactly if both are zero
 or_zero : (x y : ℕ) → eqb (bit_or x y) 0 ≡ (eqb x 0 && eqb y 0)
@@ -323,7 +312,7 @@ pub whole_is : (text r0 r1 r2 r3 : List ℕ) {m0 m1 m2 m3 : ℕ} → r0 ≡ take
     → m2 ≡ others_mask r2 → m3 ≡ others_mask r3
     → eqb (bit_or (bit_or m0 m1) (bit_or m2 m3)) 0 ≡ list_all is_symbol (take 64 text)
 whole_is text r0 r1 r2 r3 {m0} {m1} {m2} {m3} a b c d p q r s =
-    grind (arith, or_zero, mask_zero, split_block text, list_all-append, and_assoc)
+    grind (arith, or_zero, others_zero, split_block text, list_all-append, and_assoc)
 
 -- Groups of rows
 

@@ -5,12 +5,10 @@ use Rattle.data_url.specs.Fetch.{encoded_body, header_of, staged, staged_fragmen
 use Rattle.data_url.specs.{Laws.{IsReadAgain, is_fragment_byte}, Mime.{Every}, Url.{serialised, trimmed_text}}
 use Rattle.data_url.specs.Url.{after_scheme, before, after, cleaned_text, without_tabs_and_newlines, encoded_path}
 use Rattle.data_url.specs.Url.{fragment, front, hex_digit, in_fragment_set, is_tab_or_newline, percent_encoding}
-use Rattle.data_url.proofs.forgiving_base64.Padding.{first_fault_least, padding_fits}
-use Rattle.data_url.proofs.header.Serialising.{flag_of_spaces, no_last_space}
 use Rattle.data_url.proofs.{header.Stages.{bytes_by_place, bytes_dropped}, texts.CodePoints.{end_stays, not_ends_every}}
 use Rattle.data_url.proofs.mime.RoundTrips.{same_seen, seen_same, printed_only, printed_parses, printed_same}
 use Rattle.data_url.proofs.percent.Encoding.{IsBytes, encoded_cons, encoded_nil, is_recoded, recoded-decoded}
-use Rattle.data_url.proofs.texts.Bytes.{dropped_keeps, dropped_nil, fragment_dropped}
+use Rattle.data_url.proofs.texts.Bytes.{dropped_keeps, dropped_nil}
 
 -- an encoded fragment can have each upper-case hexadecimal digit
 digit_byte : (d : ℕ) → d < 16 → is_fragment_byte (hex_digit d) ≡ true
@@ -57,6 +55,3 @@ pub ruleset prints = (printed_only, printed_parses, printed_same, same_seen, see
 
 -- the lemmas for the functions of `laws`
 pub ruleset laws = (is_recoded, recoded-decoded, bytes_by_place, bytes_dropped, fragment_bytes, read_again, prints)
-
--- the lemmas for those of `facts`
-pub ruleset facts = (first_fault_least, padding_fits, flag_of_spaces, no_last_space, fragment_dropped)

@@ -11,9 +11,11 @@ use Rattle.std.{proofs.lemmas.List.Sums.{prefix_len_passes, prefix_len_stops}, s
 use Rattle.std.proofs.lemmas.List.Sums.{suffix_len-le-length, prefix_len-drop_no, prefix_len-le-length}
 use Rattle.std.proofs.lemmas.List.{length-map, drop_all, drop_more, drop-append-le, get_or_at, get_or-map}
 use Rattle.std.proofs.lemmas.List.{reverse-append, take_rest, get_or-reverse, length-reverse, take_more}
-use Rattle.data_url.specs.{Facts.{base64_flag, serialised_with_spaces}, Steps.Header.{header_text, is_no_question_mark}}
+use Rattle.data_url.specs.{Steps.Header.{header_text, is_no_question_mark}}
+use Rattle.data_url.proofs.facts.Definitions.{base64_flag, serialised_with_spaces}
 use Rattle.data_url.specs.Fetch.{before_base64, before_semicolon, is_space, before_word, has_base64_suffix}
-use Rattle.data_url.specs.{Fetch.{stripped_header, before_comma}, Mime.{DoesNotEnd}}
+use Rattle.data_url.specs.{Fetch.{stripped_header, before_comma}}
+use Rattle.data_url.specs.Steps.Parsing.{DoesNotEnd}
 use Rattle.data_url.specs.Steps.Header.{IsPrintable, HasNoLastSpace, IsPathAndQuery, WithoutSpace, encoded_parts}
 use Rattle.data_url.specs.Url.{encoded_byte, encoded_path, in_path_set, in_query_set, is_tab_or_newline}
 use Rattle.data_url.specs.Url.{is_c0_control_or_space, without_end, before, after, without_tabs_and_newlines}

@@ -3,7 +3,8 @@ use Rattle.std.proofs.Common.{Some, length, refl, sym, ap, ◌∙◌, subst, app
 use Rattle.std.{proofs.Common.{one-add, ◌+◌, length-append, eqb-true, take-append-drop}, proofs.lemmas.Bool.{not-false}}
 use Rattle.std.proofs.Common.{◌≡◌, ℕ, zero, suc, ◌≤◌, ◌==◌, Bool, false, cond, List, [], ◌∷◌, ◌++◌, Option, true, None}
 use Rattle.std.specs.List.{prefix_len}
-use Rattle.data_url.specs.{CodePoints.{is_http_whitespace, is_token}, Facts.{HasOneItemList, HasAtMostOneRecord}}
+use Rattle.data_url.specs.{CodePoints.{is_http_whitespace, is_token}}
+use Rattle.data_url.proofs.facts.Definitions.{HasOneItemList, HasAtMostOneRecord}
 use Rattle.data_url.specs.Mime.{BeginsParameters, DoesNotBegin, Every, GivesValue, IsParameter, Item, Items, is_quote}
 use Rattle.data_url.specs.Mime.{lone_equals, nothing, plain, quoted, unclosed, unless_empty, IsHead}
 use Rattle.data_url.specs.Steps.Parsing.{Reading, after_mark, front_of, given_reading, in_name, in_value, item_in}

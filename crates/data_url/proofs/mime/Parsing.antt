@@ -10,7 +10,8 @@ use Rattle.std.proofs.lemmas.List.Sums.{prefix_len-le-length, prefix_len_passes,
 use Rattle.std.proofs.lemmas.Str.{chars-append, chars-nil, chars_past_char, encodes-chars, IsUtf8-encode}
 use Rattle.std.{specs.Char.{IsScalar, to_ascii_lowercase}, specs.List.{list_all, prefix_len}, specs.Str.{IsUtf8, chars}}
 use Rattle.data_url.specs.{CodePoints.{is_http_whitespace, is_quotable, is_token}, Url.{without_end, without_start}}
-use Rattle.data_url.specs.Mime.{Every, unless_empty, BeginsParameters, IsHead, is_token_text, valid_of, DoesNotEnd}
+use Rattle.data_url.specs.Mime.{Every, unless_empty, BeginsParameters, IsHead, is_token_text, valid_of}
+use Rattle.data_url.specs.Steps.Parsing.{DoesNotEnd}
 use Rattle.data_url.specs.Steps.Parsing.{front_of, in_value, is_escaped, is_quotable_byte, is_unquoted_byte}
 use Rattle.data_url.specs.Steps.Parsing.{item_in, named, pair_if, reading, reading_in, IsTrimmedEnd}
 use Rattle.data_url.specs.Steps.Parsing.{quotable_value, unescaped, HasNoHead, IsTokens, Reading, after_mark, in_name}

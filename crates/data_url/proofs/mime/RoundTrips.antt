@@ -12,7 +12,8 @@ use Rattle.std.{proofs.lemmas.Simd.{map-map}, proofs.lemmas.Str.{encodes-chars},
 use Rattle.std.proofs.lemmas.Str.{IsUtf8-append, IsUtf8-string_bytes, chars_past_char, encode_ascii, encodes-append}
 use Rattle.std.{specs.Cmp.Lexicographic.{pointwise}, specs.declared.fmt.Formatter.{Formatter}}
 use Rattle.data_url.specs.CodePoints.{ends_name, is_http_whitespace, is_quotable, is_semicolon, is_token}
-use Rattle.data_url.specs.Mime.{BeginsParameters, DoesNotBegin, DoesNotEnd, Every, GivesValue, IsHead, IsParameter}
+use Rattle.data_url.specs.Mime.{BeginsParameters, DoesNotBegin, Every, GivesValue, IsHead, IsParameter}
+use Rattle.data_url.specs.Steps.Parsing.{DoesNotEnd}
 use Rattle.data_url.specs.Mime.{IsWellformed, Item, Items, Parses, Quoted, Record, first_of_each_name}
 use Rattle.data_url.specs.Mime.{Without, escaped_code_point, is_token_text, printed, printed_pair, printed_value, Pair}
 use Rattle.data_url.specs.Mime.{has_distinct_names, has_name, is_lowercase_name, is_quote, kept_pairs, plain, quoted}

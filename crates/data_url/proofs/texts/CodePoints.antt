@@ -7,7 +7,8 @@ use Rattle.std.{proofs.lemmas.Str.Ascii.{IsAscii-nil}, specs.Str.{chars, IsCharB
 use Rattle.std.proofs.lemmas.Str.{IsUtf8-take, chars-append}
 use Rattle.std.proofs.lemmas.Str.{chars-encodes, encodes-append, encodes-chars, IsCharBoundary-at_seam, scalars-chars}
 use Rattle.std.proofs.lemmas.Str.{encode_ascii, chars-nil, length-le-encodes, chars-IsAscii, IsUtf8-from_ascii}
-use Rattle.data_url.specs.{Mime.{DoesNotBegin, DoesNotEnd, Every}, Steps.Parsing.{IsTrimmedEnd, front_of}}
+use Rattle.data_url.specs.{Mime.{DoesNotBegin, Every}, Steps.Parsing.{IsTrimmedEnd, front_of}}
+use Rattle.data_url.specs.Steps.Parsing.{DoesNotEnd}
 use Rattle.data_url.specs.Url.{is_c0_control_or_space, without_end, without_start}
 use lib.Utf8.{encode}
 use mathlib.Core.List.{reverse_aux}

@@ -1,12 +1,17 @@
 -- The complete groups at the start of a text, and the bytes of groups that are held.
 use Rattle.std.specs.Char.{is_ascii_whitespace}
 use Rattle.std.specs.List.{filter, list_all}
-use Rattle.std.specs.Prelude.{◌%◌, ◌++◌, ◌||◌, ◌≡◌, Bool, IsTrue, List, length, map, take, ℕ}
+use Rattle.std.specs.Prelude.{[], if◌then◌else◌, ◌%◌, ◌++◌, ◌/◌, ◌==◌, ◌||◌, ◌∷◌, ◌≡◌, Bool, IsTrue, List, length, map, take, ℕ}
 use Rattle.data_url.specs.Base64.{groups, is_symbol, symbol_value}
 use Rattle.data_url.specs.declared.forgiving_base64.held.HeldGroups.{HeldGroups}
 
 abbrev pub is_symbol_or_space : ℕ → Bool
 is_symbol_or_space b = is_symbol b || is_ascii_whitespace b
+
+-- the items whose bits are 0, from the lowest bit on
+abbrev pub clear : List ℕ → ℕ → List ℕ
+clear [] bits = []
+clear (x ∷ xs) bits = if bits % 2 == 0 then x ∷ clear xs (bits / 2) else clear xs (bits / 2)
 
 -- the text has only the symbols of complete groups, and white space
 pub record IsWhole (text : List ℕ) : Type 0 where

@@ -1,12 +1,8 @@
 -- What the vector code computes from one byte, and from a row of values.
-use Rattle.std.specs.Prelude.{[], if◌then◌else◌, ◌%◌, ◌*◌, ◌+◌, ◌/◌, ◌==◌, ◌∷◌, ◌≡◌, ◌≤◌, IsTrue, List, bit_and}
+use Rattle.std.specs.Prelude.{[], if◌then◌else◌, ◌%◌, ◌*◌, ◌+◌, ◌/◌, ◌==◌, ◌∷◌, ◌≡◌, ◌≤◌, IsTrue, List}
 use Rattle.std.specs.{List.{list_all}, Prelude.{map, slice_index, take, ℕ}}
 use Rattle.data_url.specs.Base64.{group_number, groups, is_symbol, symbol_value}
-use Rattle.data_url.specs.declared.forgiving_base64.alphabet.TheConstants.{HIGH_HALVES, LOW_HALVES, OFFSETS}
-
--- the lookup of a byte in the two tables, one for each half of the byte; 0 exactly for a symbol
-abbrev pub mark_of : ℕ → ℕ
-mark_of b = bit_and (slice_index LOW_HALVES (bit_and b 15)) (slice_index HIGH_HALVES (b / 16))
+use Rattle.data_url.specs.declared.forgiving_base64.alphabet.TheConstants.{OFFSETS}
 
 -- the index of the offset of a byte: its high half or, for '/', one less
 abbrev pub offset_row : ℕ → ℕ

@@ -5,7 +5,7 @@ use Rattle.std.specs.List.{list_all, prefix_len}
 use Rattle.std.specs.Prelude.{[], if◌then◌else◌, ◌&&◌, ◌++◌, ◌==◌, ◌||◌, ◌∷◌, ◌≡◌, Bool, IsTrue, List, None, Option, Some, drop, false, map, not, suc, take, true, zero, ℕ}
 use Rattle.std.specs.Str.{chars}
 use Rattle.data_url.specs.CodePoints.{ends_name, is_http_whitespace, is_quotable, is_semicolon, is_token}
-use Rattle.data_url.specs.Mime.{DoesNotEnd, Every, IsHead, Item, Pair, has_name, is_lowercase_name, is_token_text, unless_empty, valid_of}
+use Rattle.data_url.specs.Mime.{Every, IsHead, Item, Pair, has_name, is_lowercase_name, is_token_text, unless_empty, valid_of}
 use Rattle.data_url.specs.Url.{without_end, without_start}
 use Rattle.data_url.specs.declared.mime.parse.Parameter.{Parameter}
 use Rattle.data_url.specs.declared.mime.values.Value.TheVariants as slices
@@ -20,6 +20,12 @@ pub record IsTokens (s tokens rest : List ℕ) : Type 0 where
   pub front : front_of is_token s ≡ tokens
   pub after : without_start is_token s ≡ rest
   pub token : IsTrue (is_token_text tokens)
+
+-- the text is empty, or its last code point does not pass
+abbrev pub DoesNotEnd : (ℕ → Bool) → List ℕ → Type 0
+DoesNotEnd p [] = Unit {0}
+DoesNotEnd p (c ∷ []) = p c ≡ false
+DoesNotEnd p (c ∷ d ∷ t) = DoesNotEnd p (d ∷ t)
 
 -- t is s without the longest suffix of code points that pass
 pub record IsTrimmedEnd (p : ℕ → Bool) (s t : List ℕ) : Type 0 where

@@ -9,16 +9,24 @@ use std::simd::prelude::*;
 /// How many bytes are tested together.
 const ROW: usize = 16;
 
-/// Has, for each high half of a byte, the bit of its column. Control bytes and bytes that are not ASCII share one bit.
-const COLUMNS: [u8; 16] = [1, 1, 2, 4, 8, 16, 32, 64, 1, 1, 1, 1, 1, 1, 1, 1];
+/// Has, for each high half of a byte, the bit of its column. Bytes from 0x10 to 0x1F and from 0x80 on share one bit.
+#[rattlefmt::skip]
+const COLUMNS: [u8; 16] = [1, 128, 2, 4, 8, 16, 32, 64, 128, 128, 128, 128, 128, 128, 128, 128];
 
-/// Returns a bit for each of the 16 bytes at a place, which is set where the byte may be outside a class.
+/// The row of a text that begins at a place.
 #[inline(always)]
-fn marks_at(others: [u8; 16], bytes: &[u8], at: usize) -> u64
-    requires { at + 16 ≤ length bytes.now }
-    ensures { result ≡ mask_l (map (is_marked others) (take 16 (drop at bytes.now))) }
+pub(crate) fn row(text: &[u8], at: usize) -> u8x16
+    requires { at + 16 ≤ length text.now }
+    ensures { result ≡ take 16 (drop at text.now) }
 {
-    let row = u8x16::from_slice(&bytes[at..]);
+    u8x16::from_slice(&text[at..])
+}
+
+/// Returns a bit for each byte of a row, which is set where the byte may be outside a class.
+#[inline(always)]
+pub(crate) fn marks(others: [u8; 16], row: u8x16) -> u64
+    ensures { result ≡ mask_l (map (is_marked others) row) }
+{
     let low = u8x16::from_array(others).swizzle_dyn(row & u8x16::splat(15));
     let high = u8x16::from_array(COLUMNS).swizzle_dyn(row >> u8x16::splat(4));
     (low & high).simd_ne(u8x16::splat(0)).to_bitmask()
@@ -31,7 +39,7 @@ pub(crate) fn rows_len(others: [u8; 16], bytes: &[u8]) -> usize
     ensures prefix { AreOf others bytes.now result }
 {
     let mut at = 0;
-    while bytes.len() - at >= ROW && marks_at(others, bytes, at) == 0 {
+    while bytes.len() - at >= ROW && marks(others, row(bytes, at)) == 0 {
         at += ROW;
     }
     at

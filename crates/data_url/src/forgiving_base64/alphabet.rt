@@ -1,20 +1,19 @@
 //! The alphabet of base64 (RFC 4648, section 4): which bytes are symbols, and the bytes of their groups, byte by byte and
 //! in rows of sixteen bytes.
 
-ghost use Rattle.std.specs.Prelude.{◌≡◌, IsTrue, length, map};
+ghost use Rattle.std.specs.Prelude.{◌≡◌, IsTrue, length, map, not};
+ghost use Rattle.std.specs.List.{list_all};
+ghost use Rattle.std.specs.Simd.Lanes.{mask_l};
 ghost use Rattle.data_url.specs.Base64.{group_bytes, group_number, is_symbol, symbol_value};
-ghost use Rattle.data_url.specs.Steps.Groups.{is_symbol_or_space};
-ghost use Rattle.data_url.specs.Steps.Lanes.{DecodesFront, mark_of, numbers, value_of};
+ghost use Rattle.data_url.specs.Steps.{Groups.{is_symbol_or_space}, Lanes.{DecodesFront, numbers, value_of}};
 
+use crate::classes::lanes::marks;
 use std::simd::prelude::*;
 
-/// The entry of the table for a byte that is neither a symbol nor white space. That of white space is 65.
-const OTHER: u8 = 64;
-
-/// The value of each symbol, by its byte.
+/// The value of each symbol, by its byte, and 64 for other bytes.
 const VALUES: [u8; 256] = [
-    64, 64, 64, 64, 64, 64, 64, 64, 64, 65, 65, 64, 65, 65, 64, 64, 64, 64, 64, 64, 64, 64, 64, 64,
-    64, 64, 64, 64, 64, 64, 64, 64, 65, 64, 64, 64, 64, 64, 64, 64, 64, 64, 64, 62, 64, 64, 64, 63,
+    64, 64, 64, 64, 64, 64, 64, 64, 64, 64, 64, 64, 64, 64, 64, 64, 64, 64, 64, 64, 64, 64, 64, 64,
+    64, 64, 64, 64, 64, 64, 64, 64, 64, 64, 64, 64, 64, 64, 64, 64, 64, 64, 64, 62, 64, 64, 64, 63,
     52, 53, 54, 55, 56, 57, 58, 59, 60, 61, 64, 64, 64, 64, 64, 64, 64, 0, 1, 2, 3, 4, 5, 6, 7, 8,
     9, 10, 11, 12, 13, 14, 15, 16, 17, 18, 19, 20, 21, 22, 23, 24, 25, 64, 64, 64, 64, 64, 64, 26,
     27, 28, 29, 30, 31, 32, 33, 34, 35, 36, 37, 38, 39, 40, 41, 42, 43, 44, 45, 46, 47, 48, 49, 50,
@@ -26,13 +25,15 @@ const VALUES: [u8; 256] = [
     64, 64, 64, 64, 64, 64, 64, 64, 64, 64, 64, 64, 64, 64,
 ];
 
-/// Has, for each low half of a byte, the rows of the alphabet in which it is not a symbol, as a bit for each row.
-const LOW_HALVES: [u8; 16] = [
-    21, 17, 17, 17, 17, 17, 17, 17, 17, 17, 19, 26, 27, 27, 27, 26,
+/// The class of the symbols: for each low half of a byte, the bits of the columns in which it is not one.
+const SYMBOLS: [u8; 16] = [
+    171, 131, 131, 131, 131, 131, 131, 131, 131, 131, 135, 213, 215, 215, 215, 213,
 ];
 
-/// Has, for each high half of a byte, the bit of its row.
-const HIGH_HALVES: [u8; 16] = [16, 16, 1, 2, 4, 8, 4, 8, 16, 16, 16, 16, 16, 16, 16, 16];
+/// The class of symbols and white space.
+const SPACED: [u8; 16] = [
+    169, 131, 131, 131, 131, 131, 131, 131, 131, 130, 134, 213, 214, 214, 215, 213,
+];
 
 /// Has, for each high half of a symbol (1 for '/'), a number: the symbol plus it is the value, modulo 256.
 const OFFSETS: [u8; 16] = [0, 16, 19, 4, 191, 191, 185, 185, 0, 0, 0, 0, 0, 0, 0, 0];
@@ -47,22 +48,13 @@ const LOWER_WEIGHTS: [u8; 16] = [0, 0, 64, 1, 0, 0, 64, 1, 0, 0, 64, 1, 0, 0, 64
 pub(crate) fn is_symbol(byte: u8) -> bool
     ensures { result ≡ is_symbol byte }
 {
-    VALUES[byte as usize] < OTHER
-}
-
-/// Whether a byte is a symbol or white space.
-pub(crate) fn is_symbol_or_space(byte: u8) -> bool
-    ensures { result ≡ is_symbol_or_space byte }
-{
-    VALUES[byte as usize] != OTHER
+    VALUES[byte as usize] < 64
 }
 
 /// The three bytes of a group of four symbols.
 pub(crate) fn group_of(first: u8, second: u8, third: u8, fourth: u8) -> [u8; 3]
-    requires first { IsTrue (is_symbol first) }
-    requires second { IsTrue (is_symbol second) }
-    requires third { IsTrue (is_symbol third) }
-    requires fourth { IsTrue (is_symbol fourth) }
+    requires { IsTrue (is_symbol first) × IsTrue (is_symbol second) × IsTrue (is_symbol third)
+        × IsTrue (is_symbol fourth) }
     ensures { let number = group_number (symbol_value first) (symbol_value second)
         (symbol_value third) (symbol_value fourth) in
         result ≡ group_bytes number }
@@ -76,14 +68,20 @@ pub(crate) fn group_of(first: u8, second: u8, third: u8, fourth: u8) -> [u8; 3]
     ]
 }
 
-/// Marks each byte that is not a symbol with a number that is not 0.
+/// A bit for each byte of a row, which is set if the byte is not a symbol.
 #[inline(always)]
-pub(crate) fn marks_of(bytes: u8x16) -> u8x16
-    ensures { result ≡ map mark_of bytes }
+pub(crate) fn others(bytes: u8x16) -> u64
+    ensures { result ≡ mask_l (map (λ b. not (is_symbol b)) bytes) }
 {
-    let low = u8x16::from_array(LOW_HALVES).swizzle_dyn(bytes & u8x16::splat(15));
-    let high = u8x16::from_array(HIGH_HALVES).swizzle_dyn(bytes >> u8x16::splat(4));
-    low & high
+    marks(SYMBOLS, bytes)
+}
+
+/// Whether all bytes of a row are symbols or white space.
+#[inline(always)]
+pub(crate) fn is_spaced(bytes: u8x16) -> bool
+    ensures { result ≡ list_all is_symbol_or_space bytes }
+{
+    marks(SPACED, bytes) == 0
 }
 
 /// The value of each symbol. A byte that is no symbol has some value too.

@@ -5,17 +5,9 @@ ghost use Rattle.std.specs.List.{list_all};
 ghost use Rattle.std.specs.Simd.Lanes.{mask_l};
 ghost use Rattle.data_url.specs.Base64.{groups, is_symbol, symbol_value};
 
-use super::alphabet::{decode_row, marks_of};
+use super::alphabet::{decode_row, others};
+use crate::classes::lanes::row;
 use std::simd::prelude::*;
-
-/// The row of a text that begins at a place.
-#[inline(always)]
-pub(crate) fn row(text: &[u8], at: usize) -> u8x16
-    requires { at + 16 ≤ length text.now }
-    ensures { result ≡ take 16 (drop at text.now) }
-{
-    u8x16::from_slice(&text[at..])
-}
 
 /// Whether all of the first 64 bytes are symbols.
 #[inline(always)]
@@ -26,14 +18,6 @@ pub(crate) fn is_whole(text: &[u8]) -> bool
     let upper = others(row(text, 0)) | others(row(text, 16));
     let lower = others(row(text, 32)) | others(row(text, 48));
     upper | lower == 0
-}
-
-/// A bit for each byte of a row, which is set if the byte is not a symbol.
-#[inline(always)]
-fn others(bytes: u8x16) -> u64
-    ensures { result ≡ mask_l (map (λ b. not (is_symbol b)) bytes) }
-{
-    marks_of(bytes).simd_ne(u8x16::splat(0)).to_bitmask()
 }
 
 /// Returns how many whole groups of symbols a row begins with. The most frequent numbers come first.

@@ -1,11 +1,11 @@
 //! The bytes of whole groups of a text of base64 (RFC 4648, section 4) that the closure was not yet called with.
 
 ghost use Rattle.std.specs.Prelude.{◌≡◌, ◌%◌, ◌+◌, ◌≤◌, ◌<◌, ◌++◌, [], drop, length, take};
-ghost use Rattle.std.specs.Char.{is_ascii_whitespace};
-ghost use Rattle.std.specs.List.{prefix_len};
 
-use super::alphabet::{decode_row, group_of, is_symbol, is_symbol_or_space};
-use super::blocks::{groups_ahead, put, row};
+use super::alphabet::{decode_row, group_of, is_symbol};
+use super::blocks::{groups_ahead, put};
+use super::spaced::without_spaces;
+use crate::classes::lanes::row;
 
 /// How many bytes of groups are held before the closure is called with them: those of 64 groups. With one piece, 16
 /// groups, lines of 76 symbols take a fifth longer.
@@ -19,17 +19,6 @@ pub(crate) struct HeldGroups {
     ghost within: { len < 204 },
     ghost whole: { len % 3 ≡ 0 },
     ghost sized: { length bytes ≡ 208 },
-}
-
-/// Returns how many bytes at the start are white space.
-fn spaces_len(bytes: &[u8]) -> usize
-    ensures prefix { result ≡ prefix_len is_ascii_whitespace bytes.now }
-    ensures within { result ≤ length bytes.now }
-{
-    bytes
-        .iter()
-        .take_while(|byte| byte.is_ascii_whitespace())
-        .count()
 }
 
 impl HeldGroups {
@@ -78,8 +67,8 @@ impl HeldGroups {
         self.len = end;
     }
 
-    /// Adds whole groups that a text begins with: those of rows of sixteen bytes, or one group. White space after the
-    /// groups of a row is skipped. Returns how many bytes of the text these take.
+    /// Adds whole groups that a text begins with: those of rows of sixteen bytes, or one group. White space between the
+    /// symbols of a row and after its groups is skipped. Returns how many bytes of the text they take.
     #[inline(always)]
     pub(crate) fn fill(&mut self, text: &[u8]) -> usize
         requires room { self.old.len < 192 }
@@ -121,39 +110,38 @@ impl HeldGroups {
                 len += 12;
                 rest = &rest[16..];
             } else {
-                let taken = 4 * ahead + spaces_len(&rest[4 * ahead..]);
-                if taken == 0 {
+                let after = rest[4 * ahead..].trim_ascii_start();
+                if after.len() == rest.len() {
                     break;
                 }
                 len += 3 * ahead;
-                rest = &rest[taken..];
+                rest = after;
             }
         }
         self.len = len;
         text.len() - rest.len()
     }
 
-    /// Adds the groups of the first sixteen symbols of a text, without the white space between them. Returns how many
-    /// bytes of the text these take, or 0 if there are fewer before the end or another byte.
+    /// Adds whole groups that a text begins with, without the white space between their symbols, as long as there is a
+    /// row of sixteen bytes that has white space, and no padding or fault. Returns how many bytes of the text they take.
     #[inline(never)]
     fn fill_spaced(&mut self, text: &[u8]) -> usize
         requires room { self.old.len < 192 }
         ensures within { result ≤ length text.now }
         ensures fills { Fills (held_bytes self.old) (take result text.now) (held_bytes self.new) }
     {
-        let mut symbols = [0; 16];
-        let mut count = 0;
-        let mut at = 0;
-        while count < 16 {
-            if at == text.len() || !is_symbol_or_space(text[at]) {
-                return 0;
+        let mut rest = text;
+        let mut len = self.len;
+        while rest.len() >= 16 && len < FULL {
+            let (symbols, groups, taken) = without_spaces(row(rest, 0));
+            if taken == 0 {
+                break;
             }
-            symbols[count] = text[at];
-            count += usize::from(is_symbol(text[at]));
-            at += 1;
+            put(&mut self.bytes, len, decode_row(symbols));
+            len += 3 * groups;
+            rest = &rest[taken..];
         }
-        put(&mut self.bytes, self.len, decode_row(row(&symbols, 0)));
-        self.len += 12;
-        at
+        self.len = len;
+        text.len() - rest.len()
     }
 }

@@ -1,4 +1,4 @@
-use Rattle.std.{proofs.Common.{ap, arith, inl, inr, length-take, rules, sym, take, ◌∙◌}, specs.Fn.{CalledAt}}
+use Rattle.std.{proofs.Common.{◌<◌, ℕ, ap, arith, inl, inr, length-take, refl, rules, sym, take, ◌∙◌}, specs.Fn.{CalledAt}}
 use Rattle.data_url.specs.Decoder.{state_of}
 use Rattle.data_url.proofs.forgiving_base64.Padding.{every_list_all}
 use Rattle.data_url.proofs.forgiving_base64.Steps.{decoded_three, decoded_two, finishes_called, finishes_nothing}
@@ -42,25 +42,17 @@ returns-clause-finished g c =
       | goal.in-1 w ↦ grind (arith, every_list_all, length-take, valid_left, kind_left, finishes_refused)
     ]
 
-pub group_of-requires-clause-first : goal.group_of-requires-clause-first
-group_of-requires-clause-first g c =
-    let d = c.args.self.state in kept_symbol d.symbols d.pending 0 (omega arith) (omega arith) d.pending_symbols
+pub group_of-requires : goal.group_of-requires
+group_of-requires g c =
+    let d = c.args.self.state in
+    let is = λ (i : ℕ) (l : i < 2). kept_symbol d.symbols d.pending i (omega arith) (omega arith) d.pending_symbols in
+    (is 0 (omega arith), is 1 (omega arith), refl, refl)
 
-pub group_of-requires-clause-second : goal.group_of-requires-clause-second
-group_of-requires-clause-second g c =
-    let d = c.args.self.state in kept_symbol d.symbols d.pending 1 (omega arith) (omega arith) d.pending_symbols
-
-pub group_of-requires-in-3-clause-first : goal.group_of-requires-in-3-clause-first
-group_of-requires-in-3-clause-first g c =
-    let d = c.args.self.state in kept_symbol d.symbols d.pending 0 (omega arith) (omega arith) d.pending_symbols
-
-pub group_of-requires-in-3-clause-second : goal.group_of-requires-in-3-clause-second
-group_of-requires-in-3-clause-second g c =
-    let d = c.args.self.state in kept_symbol d.symbols d.pending 1 (omega arith) (omega arith) d.pending_symbols
-
-pub group_of-requires-in-3-clause-third : goal.group_of-requires-in-3-clause-third
-group_of-requires-in-3-clause-third g c =
-    let d = c.args.self.state in kept_symbol d.symbols d.pending 2 (omega arith) (omega arith) d.pending_symbols
+pub group_of-requires-in-3 : goal.group_of-requires-in-3
+group_of-requires-in-3 g c =
+    let d = c.args.self.state in
+    let is = λ (i : ℕ) (l : i < 3). kept_symbol d.symbols d.pending i (omega arith) (omega arith) d.pending_symbols in
+    (is 0 (omega arith), is 1 (omega arith), is 2 (omega arith), refl)
 
 pub returns-clause-callable : goal.returns-clause-callable
 returns-clause-callable g c = search rules

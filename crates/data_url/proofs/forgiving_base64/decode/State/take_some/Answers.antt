@@ -1,4 +1,4 @@
-use Rattle.std.proofs.Common.{append-nil, get_or, refl, ap, sym, ◌∙◌, arith, length-take}
+use Rattle.std.proofs.Common.{◌<◌, ℕ, append-nil, get_or, refl, ap, sym, ◌∙◌, arith, length-take}
 use Rattle.std.{proofs.lemmas.Bool.{ne_eqb}, proofs.lemmas.List.{length-map, take_more_set}}
 use Rattle.data_url.specs.Steps.Holding.{left_state}
 use Rattle.data_url.proofs.forgiving_base64.Holding.{gains_groups, gains_none, gains_one}
@@ -72,9 +72,7 @@ invariant_of-self-then-self-lt3 c =
 
 pub group_of-requires : goal.group_of-requires
 group_of-requires c =
-    let d = c.args.self.now in record {
-      first = kept_symbol d.symbols d.pending 0 (omega arith) (omega (arith, d.few_pending)) d.pending_symbols;
-      second = kept_symbol d.symbols d.pending 1 (omega arith) (omega (arith, d.few_pending)) d.pending_symbols;
-      third = kept_symbol d.symbols d.pending 2 (omega arith) (omega (arith, d.few_pending)) d.pending_symbols;
-      fourth = sym c.is_symbol.ensures ∙ c.if-not-is_symbol.false;
-    }
+    let d = c.args.self.now in
+    let is = λ (i : ℕ) (l : i < 3).
+    kept_symbol d.symbols d.pending i (omega arith) (omega (arith, d.few_pending)) d.pending_symbols in
+    (is 0 (omega arith), is 1 (omega arith), is 2 (omega arith), sym c.is_symbol.ensures ∙ c.if-not-is_symbol.false)

@@ -1,36 +1,26 @@
-use Rattle.std.proofs.Common.{◌≡◌, ◌<◌, ◌∙◌, ap, arith, length, length-set, sym, take_all}
-use Rattle.std.{proofs.lemmas.List.Folds.{list_all_more}}
-use Rattle.data_url.specs.{Steps.Groups.{is_symbol_or_space}}
-use Rattle.data_url.proofs.forgiving_base64.Groups.{fills_nothing, gathers, row_fills}
+use Rattle.std.proofs.Common.{◌≡◌, ◌∙◌, ap, arith, sym, take, take-take}
+use Rattle.data_url.proofs.forgiving_base64.Groups.{leaves_all, leaves_read, row_leaves}
 use Rattle.data_url.proofs.forgiving_base64.held.HeldGroups.fill_spaced.Goals as goal
 
-pub returns-then-at-text-clause-fills : goal.returns-then-at-text-clause-fills
-returns-then-at-text-clause-fills c = fills_nothing _
+pub loop-rest-init : goal.loop-rest-init
+loop-rest-init c = grind (arith, leaves_all)
 
-pub loop-count-preserved : goal.loop-count-preserved
-loop-count-preserved c =
-    let i = c.loop-count.invariant in
-    let l = c.loop-count in
-    let text = c.args.text.now in
-    let inside : l.at < length text = omega (arith, i.within) in
-    let g = gathers text l.symbols l.at l.count c.from-count.result c.is_symbol.result inside (omega (arith, i.long))
-    c.is_symbol.ensures c.from-count.ensures i.gathered in
+pub loop-rest-preserved : goal.loop-rest-preserved
+loop-rest-preserved c =
+    let l = c.loop-rest in
+    let s = c.without_spaces-groups.result in
+    let are = c.without_spaces-groups.ensures in
+    let same : take s.2 c.row.result ≡ take s.2 l.rest.now =
+    ap (take s.2) c.row.ensures ∙ take-take s.2 16 l.rest.now are.sizes.1.1 in
     record {
-      within = omega (arith, inside);
-      room = omega (arith, g.0);
-      long = grind (arith, length-set, i.long);
-      spaced = grind (arith, list_all_more is_symbol_or_space text l.at 0 inside);
-      gathered = g.1;
+      few = omega (arith, are.sizes.1.0);
+      whole = omega (arith, l.invariant.whole);
+      leaves = row_leaves l.self.bytes _ _ s.0 l.len s.1 s.2 l.invariant.leaves (omega (arith, l.self.sized)) c.put.ensures
+          c.decode_row.ensures.bytes are.sizes.1.0 are.sizes.0 (rw (sym same) (are.spaced, are.symbols));
     }
 
+pub returns-clause-within : goal.returns-clause-within
+returns-clause-within c = omega (arith, (leaves_read c.loop-rest.invariant.leaves).0)
+
 pub returns-clause-fills : goal.returns-clause-fills
-returns-clause-fills c =
-    let i = c.loop-count.invariant in
-    let old = c.args.self.now in
-    let row : c.row.result ≡ c.loop-count.symbols =
-    c.row.ensures ∙ take_all 16 c.loop-count.symbols (omega (arith, i.long)) in
-    let all : c.loop-count.count ≡ 16 = omega (arith, i.room) in
-    row_fills old.bytes c.put.new.bytes c.decode_row.result c.row.result _ old.len 4
-    (omega (arith, old.sized, c.requires.room)) c.put.ensures c.decode_row.ensures.bytes (omega arith)
-    (omega (arith, ap length row, i.long))
-    i.spaced (sym i.gathered ∙ cc (all, row))
+returns-clause-fills c = (leaves_read c.loop-rest.invariant.leaves).1

@@ -1,17 +1,15 @@
-use Rattle.std.proofs.Common.{◌-◌, ◌≡◌, ◌≤◌, length, take, true}
-use Rattle.std.specs.List.{filter, list_all}
-use Rattle.data_url.specs.{Base64.{is_symbol}, Steps.Groups.{is_symbol_or_space}}
+use Rattle.std.proofs.Common.{◌≡◌, ◌%◌, ◌<◌, length, take}
+use Rattle.data_url.specs.Steps.Groups.{held_bytes}
+use Rattle.data_url.proofs.forgiving_base64.Groups.{Leaves}
 use Rattle.data_url.proofs.forgiving_base64.held.HeldGroups.fill_spaced.Given as goal
 
--- the symbols among the bytes read so far are gathered
-abbrev pub invariant-loop-count : goal.invariant-loop-count
-invariant-loop-count l = record {
-  within : l.at ≤ length l.text;
-  room : l.count ≤ 16;
-  long : length l.symbols ≡ 16;
-  spaced : list_all is_symbol_or_space (take l.at l.text) ≡ true;
-  gathered : take l.count l.symbols ≡ filter is_symbol (take l.at l.text);
+-- the groups of the bytes before `rest` are held
+abbrev pub invariant-loop-rest : goal.invariant-loop-rest
+invariant-loop-rest l = record {
+  few : l.len < 204;
+  whole : l.len % 3 ≡ 0;
+  leaves : Leaves (held_bytes l.fn.self) l.text l.rest (take l.len l.self.bytes);
 }
 
-abbrev pub decreases-loop-count : goal.decreases-loop-count
-decreases-loop-count l = length l.text - l.at
+abbrev pub decreases-loop-rest : goal.decreases-loop-rest
+decreases-loop-rest l = length l.rest

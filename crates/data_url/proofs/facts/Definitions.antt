@@ -1,4 +1,4 @@
--- Facts about the definitions, which the contracts of `facts` state.
+-- What the lemmas of `facts` say about the definitions of specs/.
 use Rattle.std.specs.Prelude.{◌%◌, ◌++◌, ◌<◌, ◌↔◌, ◌≡◌, ◌≢◌, ◌⊎◌, Bool, IsTrue, List, None, Option, Some, false, length, replicate, ℕ}
 use Rattle.std.specs.Option.{option_map}
 use Rattle.data_url.specs.Base64.{without_whitespace, is_fault, is_symbol, is_valid}
