@@ -3,7 +3,6 @@
 //! its rows by value. Small helpers with few fallible calls are cheaper to prove than one function with many.
 
 mod base64;
-mod base64_blocks;
 mod cuts;
 mod mime;
 mod pieces;

@@ -7,5 +7,3 @@ pub mod fetch;
 pub mod inliner;
 pub mod loader;
 pub mod negotiation;
-#[cfg(test)]
-mod tests;

@@ -210,7 +210,7 @@ impl<'a> Source<'a> {
         bytes: &[u8],
         calls: usize,
     ) -> Result<(), AllocError> {
-        for refused in 1..=calls.min(REFUSALS) {
+        for refused in 1..calls.min(REFUSALS).saturating_add(1) {
             self.assert_refused(rt, alloc, about, bytes, refused)?;
         }
         Ok(())

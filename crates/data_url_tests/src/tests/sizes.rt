@@ -11,8 +11,8 @@ use std::alloc::{AllocError, Global};
 use std::process::Abort;
 use std::test::Fail;
 
-/// The sizes are the powers of two up to this one.
-const POWERS: u32 = 20;
+/// How many sizes there are: the powers of two from 1 to 1 MiB.
+const POWERS: u32 = 21;
 
 /// A size over 16 MiB.
 const LARGE: usize = 20_971_520;
@@ -20,7 +20,7 @@ const LARGE: usize = 20_971_520;
 /// Returns a MIME type with `count` parameters.
 pub fn with_parameters(alloc: Global, count: u32) -> Result<String, AllocError> {
     let mut text = String::from_str(alloc, "x/x")?;
-    for number in 1..=count {
+    for number in 1..count.saturating_add(1) {
         write!(text, ";p{number}=v")?;
     }
     Ok(text)
@@ -68,7 +68,7 @@ fn assert_groups(rt: &impl Abort, alloc: Global, size: usize) -> Result<(), Fail
 
 #[test]
 fn long_parts(rt: HostRuntime) -> Result<(), Fail> {
-    for power in 0..=POWERS {
+    for power in 0..POWERS {
         assert_parts(&rt, rt.alloc(), 1 << power)?;
     }
     Ok(())
@@ -76,7 +76,7 @@ fn long_parts(rt: HostRuntime) -> Result<(), Fail> {
 
 #[test]
 fn many_groups(rt: HostRuntime) -> Result<(), Fail> {
-    for power in 0..=POWERS {
+    for power in 0..POWERS {
         assert_groups(&rt, rt.alloc(), 1 << power)?;
     }
     Ok(())
@@ -84,7 +84,7 @@ fn many_groups(rt: HostRuntime) -> Result<(), Fail> {
 
 #[test]
 fn long_types(rt: HostRuntime) -> Result<(), Fail> {
-    for power in 0..=POWERS {
+    for power in 0..POWERS {
         assert_types(&rt, rt.alloc(), 1 << power)?;
     }
     Ok(())

@@ -146,7 +146,7 @@ fn assert_fails(
 
 /// Asserts how a command ends if each of its reads fails in turn.
 fn assert_each_read(rt: &impl Abort, alloc: Global, case: Case, reads: usize) -> Result<(), Fail> {
-    for failing_read in 1..=reads {
+    for failing_read in 1..reads.saturating_add(1) {
         let peers = Peers {
             failing_read,
             ..BYTEWISE
@@ -166,7 +166,7 @@ fn assert_each_write(
     takes_nothing: bool,
     writes: usize,
 ) -> Result<(), Fail> {
-    for failing_write in 1..=writes {
+    for failing_write in 1..writes.saturating_add(1) {
         let peers = Peers {
             failing_write,
             takes_nothing,
@@ -229,7 +229,7 @@ fn assert_few_writes_fail(rt: &impl Abort, alloc: Global, case: Case) -> Result<
     let sound = outcome_of(rt, alloc, case.words, case.input, SOUND)?;
     assert_that(rt, case.words, sound.status == 0);
     assert_that(rt, case.words, sound.writes > 2 && sound.writes < 10);
-    for failing_write in 1..=sound.writes {
+    for failing_write in 1..sound.writes.saturating_add(1) {
         let peers = Peers {
             failing_write,
             ..SOUND

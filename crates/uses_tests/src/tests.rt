@@ -1,11 +1,5 @@
-//! Worked examples of the callers.
+//! Each caller on texts that are valid and texts that are not.
 
-use crate::body::{append_body, body_len};
-use crate::chunks::feed_chunks;
-use crate::fetch::{FetchError, Reason, content_length, fetch};
-use crate::inliner::{Part, inline};
-use crate::loader::{LoadError, load};
-use crate::negotiation::best;
 use data_url::DataUrl;
 use data_url::forgiving_base64::Decoder;
 use data_url::mime::Mime;
@@ -13,6 +7,12 @@ use std::alloc::{AllocError, Global};
 use std::io::{self, Write};
 use std::process::Abort;
 use std::test::Fail;
+use uses::body::{append_body, body_len};
+use uses::chunks::feed_chunks;
+use uses::fetch::{FetchError, Reason, Response, content_length, fetch};
+use uses::inliner::{Part, inline};
+use uses::loader::{LoadError, load};
+use uses::negotiation::best;
 
 /// Asserts a fact about a text. A call is cheaper to prove than `assert!`.
 fn assert_that(rt: &impl Abort, about: &str, is_right: bool) {
@@ -60,15 +60,13 @@ fn is_appended(url: &DataUrl, bytes: &mut Vec<u8>) -> bool {
     append_body(url, bytes).is_ok()
 }
 
-/// Asserts the length of a URL's body, and what is appended if it is decoded twice.
+/// Asserts the length of a URL's body, and what is appended.
 fn assert_body(rt: &impl Abort, alloc: Global, text: &str, body: &[u8]) -> Result<(), Fail> {
     let url = DataUrl::process(alloc, text)?;
     assert_that(rt, text, has_len(&url, body.len()).1);
     let mut bytes = Vec::new(alloc);
     assert_that(rt, text, is_appended(&url, &mut bytes));
-    assert_that(rt, text, is_appended(&url, &mut bytes));
-    let (first, second) = (bytes.get(..body.len()), bytes.get(body.len()..));
-    assert_that(rt, text, first == Some(body) && second == Some(body));
+    assert_same(rt, text, bytes.as_slice(), body);
     Ok(())
 }
 
@@ -313,17 +311,14 @@ fn the_first_of_equals_or_none(rt: HostRuntime) -> Result<(), Fail> {
 
 /// Writes a resource: its text, its type and its body.
 fn write_inlined(
+    alloc: Global,
     all: &mut Vec<u8>,
     text: &str,
-    type_: &str,
-    body: &[u8],
+    response: &Response,
 ) -> Result<(), AllocError> {
-    all.extend_from_slice(b"[")?;
-    all.extend_from_slice(text.as_bytes())?;
-    all.extend_from_slice(b", ")?;
-    all.extend_from_slice(type_.as_bytes())?;
-    all.extend_from_slice(b", ")?;
-    all.extend_from_slice(body)?;
+    let front = format!(in alloc; "[{text}, {}, ", response.content_type)?;
+    all.extend_from_slice(front.as_bytes())?;
+    all.extend_from_slice(response.body.as_slice())?;
     all.extend_from_slice(b"]")
 }
 
@@ -332,10 +327,7 @@ fn write_inlined(
 fn write_part(alloc: Global, all: &mut Vec<u8>, part: &Part) -> Result<(), AllocError> {
     match part {
         Part::Text(text) => all.extend_from_slice(text.as_bytes()),
-        Part::Inlined(text, response) => {
-            let type_ = response.content_type.as_str();
-            write_inlined(all, text, type_, response.body.as_slice())
-        }
+        Part::Inlined(text, response) => write_inlined(alloc, all, text, response),
         Part::Refused(text, reason) => {
             let whole = format!(in alloc; "({text}, {reason:?})")?;
             all.extend_from_slice(whole.as_bytes())
@@ -387,54 +379,4 @@ fn assert_plain(rt: &impl Abort, alloc: Global, pages: &[&str]) -> Result<(), Fa
 fn a_page_without_references(rt: HostRuntime) -> Result<(), Fail> {
     let pages = ["", "src=\"http:x\"", "src=\"data:,x", "src='data:,x'\""];
     assert_plain(&rt, rt.alloc(), &pages)
-}
-
-/// The length of a long body.
-const LONG: usize = 100_000;
-
-/// Asserts what a URL is loaded as, with its body's length as the limit.
-fn assert_loaded(rt: &impl Abort, alloc: Global, text: &str, body: &[u8]) {
-    let mut sink = Vec::new(alloc);
-    let error = refused(alloc, text, body.len(), &mut sink);
-    assert_that(rt, text, error.is_empty());
-    assert_same(rt, text, sink.as_slice(), body);
-}
-
-/// Asserts what each caller makes of a URL with a long body and no type.
-fn assert_long(rt: &impl Abort, alloc: Global, text: &str, body: &str) -> Result<(), Fail> {
-    assert_body(rt, alloc, text, body.as_bytes())?;
-    assert_response(rt, alloc, text, DEFAULT, body.as_bytes());
-    assert_loaded(rt, alloc, text, body.as_bytes());
-    assert_inlined(rt, alloc, text, body)
-}
-
-/// Asserts the parts of a page with this URL.
-fn assert_inlined(rt: &impl Abort, alloc: Global, text: &str, body: &str) -> Result<(), Fail> {
-    let page = format!(in alloc; "<img src=\"{text}\">")?;
-    let wanted = format!(in alloc; "<img src=\"[{text}, {DEFAULT}, {body}]\">")?;
-    assert_parts(rt, alloc, page.as_str(), 3, wanted.as_bytes())
-}
-
-#[test]
-fn a_long_plain_body(rt: HostRuntime) -> Result<(), Fail> {
-    let letters = "e".repeat(rt.alloc(), LONG)?;
-    let text = format!(in rt.alloc(); "data:,{letters}")?;
-    assert_long(&rt, rt.alloc(), text.as_str(), letters.as_str())
-}
-
-#[test]
-fn a_long_base64_body(rt: HostRuntime) -> Result<(), Fail> {
-    let symbols = "QUJD".repeat(rt.alloc(), LONG)?;
-    let bytes = "ABC".repeat(rt.alloc(), LONG)?;
-    let text = format!(in rt.alloc(); "data:;base64,{symbols}")?;
-    assert_long(&rt, rt.alloc(), text.as_str(), bytes.as_str())
-}
-
-#[test]
-fn long_chunks(rt: HostRuntime) -> Result<(), Fail> {
-    let symbols = "QUJD".repeat(rt.alloc(), LONG)?;
-    let bytes = "ABC".repeat(rt.alloc(), 2 * LONG)?;
-    let chunks = [symbols.as_bytes(), symbols.as_bytes()];
-    assert_fed(&rt, rt.alloc(), &chunks, true, bytes.as_bytes());
-    Ok(())
 }

@@ -1,0 +1,176 @@
+//! Each byte at each place, each cut, and random texts, beside the rules alone, a byte at a time.
+
+use data_url::forgiving_base64::{decode_to_vec, DecodeError, Decoder};
+use data_url::DataUrl;
+use std::convert::Infallible;
+
+/// Returns the first byte of an escape without its tabs and newlines, and the text after it.
+fn escape(text: &[u8]) -> Option<(u8, &[u8])> {
+    let digit = |byte: &u8| char::from(*byte).to_digit(16);
+    match text {
+        [b'%', high, low, rest @ ..] => Some(((digit(high)? * 16 + digit(low)?) as u8, rest)),
+        _ => None,
+    }
+}
+
+/// Returns a body: the text before the first `#`, without tabs and newlines, percent-decoded.
+fn body_of(text: &str) -> Vec<u8> {
+    let front = text.bytes().take_while(|byte| *byte != b'#');
+    let front: Vec<u8> = front.filter(|byte| !b"\t\n\r".contains(byte)).collect();
+    let (mut rest, mut body) = (&front[..], Vec::new());
+    while let [first, others @ ..] = rest {
+        let (byte, after) = escape(rest).unwrap_or((*first, others));
+        body.push(byte);
+        rest = after;
+    }
+    body
+}
+
+/// Asserts the body of a URL, by each call that decodes it.
+fn assert_body(text: &str) {
+    let body = body_of(text);
+    let whole = format!("data:,{}", text);
+    let url = DataUrl::process(&whole).unwrap();
+    assert_eq!(url.decode_to_vec().unwrap().0, body, "{:?}", text);
+    let mut pieces = Vec::new();
+    let ended = url.decode(|piece| -> Result<(), Infallible> {
+        pieces.extend_from_slice(piece);
+        Ok(())
+    });
+    assert!(ended.is_ok() && pieces == body, "{:?}", text);
+}
+
+/// Parts with bytes that the body does not hold as they are, and two without.
+const SPECIALS: [&str; 15] = [
+    "\t", "\n", "\r", "#", "%", "%41", "%4\t1", "%\n\n4\r1", "%4", "%%41", "%41%42%43%44", "\u{e9}", "%2", "%\t", "a",
+];
+
+#[test]
+fn special_bytes_at_every_place() {
+    let rest = "abcdefghijklmnopqrstuvwxyz".repeat(3);
+    for place in 0..131 {
+        for special in &SPECIALS {
+            assert_body(&format!("{}{}{}", "a".repeat(place), special, rest));
+        }
+    }
+}
+
+/// Returns the next of a sequence of random numbers.
+fn random(state: &mut u32) -> u32 {
+    *state = state.wrapping_mul(1_664_525).wrapping_add(1_013_904_223);
+    *state / 256
+}
+
+#[test]
+fn random_texts() {
+    let mut state = 20_261_122;
+    for count in 0..600 {
+        let parts = (0..count).map(|_| match random(&mut state) % 24 {
+            0..=5 => "%41",
+            6 => "%",
+            7 => "\t",
+            8 => "%4",
+            9 => "\n",
+            10 => "4",
+            11 if random(&mut state) % 64 == 0 => "#",
+            12 => "%\t41",
+            13 => "A long stretch, which goes on over the edge of a block of 64 bytes.",
+            _ => "x",
+        });
+        assert_body(&parts.collect::<String>());
+    }
+}
+
+/// Returns the six bits of a symbol.
+fn six_bits(byte: u8) -> Option<u8> {
+    let alphabet = b"ABCDEFGHIJKLMNOPQRSTUVWXYZabcdefghijklmnopqrstuvwxyz0123456789+/";
+    let place = alphabet.iter().position(|symbol| *symbol == byte);
+    place.map(|place| place as u8)
+}
+
+/// Returns the six bits of each symbol before the first fault, and the message for that fault, by the steps of
+/// forgiving-base64 decode. The message is empty for a valid text.
+fn read(text: &[u8]) -> (Vec<u8>, String) {
+    let (mut values, mut padding) = (Vec::new(), 0);
+    for byte in text.iter().filter(|byte| !byte.is_ascii_whitespace()) {
+        match six_bits(*byte) {
+            Some(value) if padding == 0 => values.push(value),
+            Some(_) => return (values, "alphabet symbol present after padding".to_owned()),
+            None if *byte == b'=' => padding += 1,
+            None => return (values, format!("symbol with codepoint {} not expected", byte)),
+        }
+    }
+    let message = match (values.len() % 4, padding) {
+        (0, 0) | (2, 0) | (2, 2) | (3, 0) | (3, 1) => "",
+        (1, _) => "lone alphabet symbol present",
+        _ => "incorrect padding",
+    };
+    (values, message.to_owned())
+}
+
+/// Returns the bytes of symbols, by their six bits. Those of symbols that are left over are added if the text is valid.
+fn bytes_of(values: &[u8], is_valid: bool) -> Vec<u8> {
+    let whole = if is_valid { values.len() } else { values.len() / 4 * 4 };
+    let bits = values[..whole].iter().flat_map(|value| (0..6).rev().map(move |at| value >> at & 1));
+    let bits: Vec<u8> = bits.collect();
+    bits.chunks_exact(8).map(|byte| byte.iter().fold(0, |all, bit| all * 2 + bit)).collect()
+}
+
+/// Asserts what a text that is fed in these parts decodes to, and its message.
+fn assert_fed(parts: &[&[u8]], bytes: &[u8], message: &str) {
+    let mut found = Vec::new();
+    let mut decoder = Decoder::new(|piece: &[u8]| {
+        found.extend_from_slice(piece);
+        Ok(())
+    });
+    let fed = parts.iter().try_for_each(|part| decoder.feed(part));
+    let ended: Result<(), DecodeError<Infallible>> = fed.and_then(|()| decoder.finish());
+    let fault = match ended {
+        Ok(()) => String::new(),
+        Err(DecodeError::InvalidBase64(fault)) => fault.to_string(),
+        Err(DecodeError::WriteError(never)) => match never {},
+    };
+    assert!(fault == message && found == bytes, "{:?}: {} {:?}", parts, fault, found);
+}
+
+/// Asserts what a whole text decodes to, and its message, and returns both.
+fn assert_base64(text: &[u8]) -> (Vec<u8>, String) {
+    let (values, message) = read(text);
+    let bytes = bytes_of(&values, message.is_empty());
+    assert_fed(&[text], &bytes, &message);
+    match decode_to_vec(text) {
+        Ok(found) => assert!(message.is_empty() && found == bytes, "{:?}", text),
+        Err(fault) => assert_eq!(fault.to_string(), message, "{:?}", text),
+    }
+    (bytes, message)
+}
+
+/// Asserts the same of each byte at each place of a text.
+fn assert_each_byte(text: &str) {
+    for place in 0..text.len() {
+        for byte in 0..=255 {
+            let mut changed = text.as_bytes().to_vec();
+            changed[place] = byte;
+            assert_base64(&changed);
+        }
+    }
+}
+
+#[test]
+fn each_byte_at_each_place() {
+    assert_each_byte(&"ABCDEFGHIJKLMNOPQRSTUVWXYZ".repeat(5));
+    assert_each_byte("ABCDEFGHIJKLMNOPQRSTUVWXYZABCDEFGH\r\nIJKLMNOPQRSTUV W X Y Z A B C D E F G H\n    IJ");
+}
+
+#[test]
+fn each_cut_in_two() {
+    let text = "gtD7fGUOv8fwNfBb0jXxUJR4QQAAabVVloZaXZxmCu1VShIqmArIntn9oX98WHgCtzC1uwB5FXZP\r\n\
+        f7stg7NvlE3LaruSrjLnonWKTn9UGKzEesg61SHE/qaQQ0NV3vTH1lS6V6+o9jl8\n\
+        zSOwW/r \tXL+iuItEnuj+h\u{c}lrWB8gpj7ktsjs0sW5=              =";
+    let (bytes, message) = assert_base64(text.as_bytes());
+    assert!(text.len() == 200 && bytes.len() == 133 && message.is_empty());
+    for cut in 0..=text.len() {
+        let (front, back) = text.as_bytes().split_at(cut);
+        assert_fed(&[front, back], &bytes, "");
+    }
+}

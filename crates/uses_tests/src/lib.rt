@@ -1,0 +1,5 @@
+//! Worked examples of the proved callers, as tests.
+#![tactic(auto)]
+
+#[cfg(test)]
+mod tests;
