@@ -20,16 +20,11 @@ use std::process::ExitCode;
 
 /// Returns the words after the program's name, or `Read` if they cannot be read, even if allocation failed.
 fn arguments(rt: &HostRuntime) -> Result<Vec<String>, Fault> {
-    let Ok(all) = env::args(rt) else {
+    let Ok(mut all) = env::args(rt) else {
         return Err(Fault::Read);
     };
-    let mut words = Vec::new(rt.alloc());
-    for word in all.skip(1) {
-        let Ok(()) = words.push(word) else {
-            return Err(Fault::Read);
-        };
-    }
-    Ok(words)
+    all.next();
+    all.collect(rt.alloc()).map_err(|_| Fault::Read)
 }
 
 fn main(rt: HostRuntime) -> ExitCode {

@@ -147,21 +147,20 @@ const AFTER_ROWS: [u8; 20] = [
     126, 98, 70, 104, 243, 135, 190, 33, 0, 0, 0, 0, 73, 69, 78, 68, 174, 66, 96, 130,
 ];
 
-/// Appends a row of the picture.
-fn push_row(file: &mut Vec<u8>, row: u8) -> Result<(), AllocError> {
-    file.push(0)?;
-    for column in 0..102u8 {
-        file.push(row.wrapping_add(column))?;
+/// The byte at a place of the rows: a 0 before each row, and its 102 pixels.
+fn row_byte(place: u32) -> u8 {
+    match place % 103 {
+        0 => 0,
+        column => ((place / 103).wrapping_add(column).wrapping_sub(1) % 256) as u8,
     }
-    Ok(())
 }
 
 /// A picture, as a PNG file.
 fn picture(alloc: Global) -> Result<Vec<u8>, AllocError> {
     let mut file = Vec::new(alloc);
     file.extend_from_slice(&BEFORE_ROWS)?;
-    for row in 0..103u8 {
-        push_row(&mut file, row)?;
+    for place in 0..10609_u32 {
+        file.push(row_byte(place))?;
     }
     file.extend_from_slice(&AFTER_ROWS)?;
     Ok(file)
