@@ -191,11 +191,11 @@ impl<'a> Cursor<'a> {
     {
         let mut len = self.gather_known(room);
         while len <= BUFFER_LEN - 2 * BLOCK && self.is_mark_near(len) {
-            let last = self.source.len() - self.block.seen < BLOCK;
-            len = if last || self.block.marks.count_ones() >= MANY {
-                self.gather_block(room, len, true)
-            } else {
+            let is_followed = self.source.len() - self.block.seen >= BLOCK;
+            len = if is_followed && self.block.marks.count_ones() < MANY {
                 self.gather_block(room, len, false)
+            } else {
+                self.gather_block(room, len, true)
             };
         }
         len

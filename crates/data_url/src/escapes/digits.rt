@@ -82,35 +82,38 @@ impl<'a> Source<'a> {
         if place >= self.len() {
             return None;
         }
-        let value = digit_code(self.look(place));
-        if value < PASSED {
-            return Some((value, place + 1));
+        match digit_code(self.look(place)) {
+            value if value < PASSED => Some((value, place + 1)),
+            PASSED => self.digit_further(place + 1),
+            _ => None,
         }
-        if value > PASSED {
-            return None;
-        }
-        // The text is read through a value of its own, so that the walk's can stay in registers.
-        let mut source = replace(self, Source::new(""));
-        let found = source.digit_further(place + 1);
-        *self = source;
-        found
     }
 
-    /// Returns the value of the hexadecimal digit from a place on, with a loop over tabs and newlines, and the place after
-    /// it.
-    #[inline(never)]
+    /// Does what `digit_by_loop` does, through a text of its own, so that the walk's can stay in registers.
+    #[inline(always)]
     fn digit_further(&mut self, place: usize) -> Option<(u8, usize)>
         requires { place ≤ length self.old.text.now }
         ensures text { self.new.text.now ≡ self.old.text.now }
         ensures found { IsDigitFrom self.old.text.now place self.old.looks self.new.looks result }
     {
+        let mut source = replace(self, Source::new(""));
+        let found = source.digit_by_loop(place);
+        *self = source;
+        found
+    }
+
+    /// Does what `digit` does, with a loop over tabs and newlines.
+    #[inline(never)]
+    fn digit_by_loop(&mut self, place: usize) -> Option<(u8, usize)>
+        requires { place ≤ length self.old.text.now }
+        ensures text { self.new.text.now ≡ self.old.text.now }
+        ensures found { IsDigitFrom self.old.text.now place self.old.looks self.new.looks result }
+    {
         for at in place..self.len() {
-            let value = digit_code(self.look(at));
-            if value < PASSED {
-                return Some((value, at + 1));
-            }
-            if value > PASSED {
-                return None;
+            match digit_code(self.look(at)) {
+                value if value < PASSED => return Some((value, at + 1)),
+                PASSED => {}
+                _ => return None,
             }
         }
         None

@@ -1,7 +1,7 @@
 -- All bytes so far are tabs and newlines.
 use Rattle.std.proofs.Common.{◌≡◌, ◌+◌, ◌-◌}
 use Rattle.data_url.specs.Steps.Digits.{Skipped}
-use Rattle.data_url.proofs.escapes.source.Source.digit_further.Given as goal
+use Rattle.data_url.proofs.escapes.source.Source.digit_by_loop.Given as goal
 
 abbrev pub invariant-loop-at : goal.invariant-loop-at
 invariant-loop-at l = record {
