@@ -24,7 +24,13 @@ fn arguments(rt: &HostRuntime) -> Result<Vec<String>, Fault> {
         return Err(Fault::Read);
     };
     all.next();
-    all.collect(rt.alloc()).map_err(|_| Fault::Read)
+    let mut words = Vec::new(rt.alloc());
+    for word in all {
+        let Ok(()) = words.push(word) else {
+            return Err(Fault::Read);
+        };
+    }
+    Ok(words)
 }
 
 fn main(rt: HostRuntime) -> ExitCode {
