@@ -112,8 +112,7 @@ impl<'a> DataUrl<'a> {
         &self.mime_type
     }
 
-    /// Returns how much room to allocate first for a body that begins with `prefix` bytes as they are in the text: room for
-    /// the whole body if it ends there.
+    /// Returns how much room to allocate first for a body that begins with `prefix` bytes of the text as they are.
     fn room(&self, prefix: usize) -> usize
         requires { prefix ≤ length (url_tail self.now) }
     {
@@ -189,8 +188,9 @@ impl<'a> DataUrl<'a> {
     }
 
     /// Returns the body's bytes and the fragment
-    /// ([Fetch Standard, section 6](https://fetch.spec.whatwg.org/#data-url-processor)). Room for a
-    /// body without tabs, newlines and `%` is allocated once; for others, it grows from at most 64 KiB.
+    /// ([Fetch Standard, section 6](https://fetch.spec.whatwg.org/#data-url-processor)). Room for a body without tabs,
+    /// newlines and `%` is allocated once. For any other, room for at most 64 KiB, or for the bytes before the first of
+    /// these if they are more, is allocated first, and grows.
     ///
     /// Returns `InvalidBase64` with the first fault if the body is base64 that is not valid, and `OutOfMemory` if
     /// allocation fails.

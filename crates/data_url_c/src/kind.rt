@@ -30,7 +30,8 @@ const BUFFER_LEN: usize = 63;
 /// The byte that the text of an unexpected symbol names.
 fn unexpected_byte(text: &str) -> Option<u8>
     requires { length text.now < 64 }
-    ensures { (byte : ℕ) → text.now ≡ kind_text (UnexpectedSymbol byte) → IfSome result (λ found. found ≡ byte) }
+    ensures { (byte : ℕ) → text.now ≡ kind_text (UnexpectedSymbol byte)
+        → IfSome result (λ found. found ≡ byte) }
 {
     let number = text
         .strip_prefix("symbol with codepoint ")?
@@ -44,7 +45,8 @@ fn unexpected_byte(text: &str) -> Option<u8>
 /// The status of the kind that has this text.
 fn status_of_text(text: &str) -> Option<u32>
     requires { length text.now < 64 }
-    ensures { (kind : Kind) → text.now ≡ kind_text kind → IfSome result (λ status. status ≡ status_of_kind kind) }
+    ensures { (kind : Kind) → text.now ≡ kind_text kind
+        → IfSome result (λ status. status ≡ status_of_kind kind) }
 {
     match text {
         "incorrect padding" => Some(PADDING),

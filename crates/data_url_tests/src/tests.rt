@@ -3,11 +3,11 @@
 //! its rows by value. Small helpers with few fallible calls are cheaper to prove than one function with many.
 
 mod base64;
+mod capacity;
 mod cuts;
 mod mime;
 mod pieces;
 mod recorder;
-mod sizes;
 mod urls;
 mod writers;
 

@@ -10,8 +10,6 @@ mod output;
 mod program;
 mod run;
 mod stream;
-#[cfg(test)]
-mod tests;
 
 use fault::Fault;
 use program::execute;

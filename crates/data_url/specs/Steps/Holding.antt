@@ -9,7 +9,8 @@ use Rattle.data_url.specs.declared.forgiving_base64.decode.State as left
 
 -- what a text leaves over, as the state of a decoder that has no closure and has not failed
 abbrev pub left_state : left.State → State (Unit {0})
-left_state s = record { closure = tt; symbols = take s.pending s.symbols; padding = s.padding; failed = false }
+left_state s =
+    record { closure = tt; symbols = take s.pending s.symbols; padding = s.padding; failed = false }
 
 -- d reads the text without a call of the closure; the bytes are those of the groups that are then
 -- complete, and d' holds what is left over

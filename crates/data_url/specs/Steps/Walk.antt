@@ -61,7 +61,8 @@ pub record Pays (text : List ℕ) (from to looks looks' more : ℕ) : Type 0 whe
 -- what is at a marked byte, or that the text ends there; but for a '%', a slice may end there
 abbrev pub IsStop : List ℕ → ℕ → ℕ → ℕ → Stop → Type 0
 IsStop text mark looks looks' stop.Stays = (slice_index text mark ≡ percent_sign)
-    × Spells text mark (mark + 1) (percent_sign ∷ []) (percent_sign ∷ []) × Pays text mark (mark + 1) looks looks' 0
+    × Spells text mark (mark + 1) (percent_sign ∷ []) (percent_sign ∷ [])
+    × Pays text mark (mark + 1) looks looks' 0
 IsStop text mark looks looks' stop.Passed = (is_slice_end (drop mark text) ≡ true)
     × Spells text mark (mark + 1) [] [] × Pays text mark (mark + 1) looks looks' 0
 IsStop text mark looks looks' (stop.Escape value end) = (is_slice_end (drop mark text) ≡ true)

@@ -43,9 +43,9 @@ impl<'a> Source<'a> {
         requires percent { slice_index self.old.text.now place ≡ percent_sign }
         ensures text { self.new.text.now ≡ self.old.text.now }
         ensures looks { self.old.looks ≤ self.new.looks }
-        ensures found { let text = self.old.text.now in
-            MatchOption result (NoEscape text place self.old.looks self.new.looks)
-            (λ found. EscapeAt text place found.0 found.1 × (self.new.looks + place + 1 ≡ self.old.looks + found.1)) }
+        ensures found { MatchOption result (NoEscape self.old.text.now place self.old.looks self.new.looks)
+            (λ found. EscapeAt self.old.text.now place found.0 found.1
+            × (self.new.looks + place + 1 ≡ self.old.looks + found.1)) }
     {
         let (high, after) = self.digit(place + 1)?;
         let (low, end) = self.digit(after)?;

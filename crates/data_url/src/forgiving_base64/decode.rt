@@ -26,8 +26,7 @@ struct State {
 }
 
 impl State {
-    ghost use Rattle.data_url.specs.Steps.Groups.{held_bytes};
-    ghost use Rattle.data_url.specs.Steps.Holding.{Gains, IsBetweenGroups, Refuses, left_state};
+    ghost use Rattle.data_url.specs.Steps.{Groups.{held_bytes}, Holding.{Gains, IsBetweenGroups, Refuses, left_state}};
 
     /// Whether the next symbol begins a group.
     #[inline(always)]
@@ -101,8 +100,7 @@ where
     F: FnMut(&[u8]) -> Result<(), E>,
 {
     ghost use Rattle.std.specs.Fn.{CalledAt};
-    ghost use Rattle.data_url.specs.Decoder.{Feeds, Finishes, start, state_of};
-    ghost use Rattle.data_url.specs.Steps.Holding.{CallsOnce, Flushes, Reads};
+    ghost use Rattle.data_url.specs.{Decoder.{Feeds, Finishes, start, state_of}, Steps.Holding.{CallsOnce, Flushes, Reads}};
 
     /// Returns a decoder that has been fed nothing yet. The closure has to accept any bytes, whatever it was called
     /// with before.
@@ -141,7 +139,8 @@ where
         requires callable { F.IsAlwaysCallable (state_of self.old).closure }
         requires going { (state_of self.old).failed ≡ false }
         ensures callable { F.IsAlwaysCallable (state_of self.new).closure }
-        ensures called { CallsOnce (CalledAt F.FnMut) (state_of self.old) piece.now result (state_of self.new) }
+        ensures called { CallsOnce (CalledAt F.FnMut) (state_of self.old) piece.now result
+            (state_of self.new) }
     {
         let answer = (self.write_bytes)(piece);
         self.failed = answer.is_err();
@@ -155,7 +154,8 @@ where
         requires callable { F.IsAlwaysCallable (state_of self.old).closure }
         requires going { (state_of self.old).failed ≡ false }
         ensures callable { F.IsAlwaysCallable (state_of self.new).closure }
-        ensures flushed { Flushes (CalledAt F.FnMut) (state_of self.old) bytes.now result (state_of self.new) }
+        ensures flushed { Flushes (CalledAt F.FnMut) (state_of self.old) bytes.now result
+            (state_of self.new) }
     {
         let mut at = 0;
         while bytes.len() - at >= PIECE {

@@ -1,6 +1,5 @@
 //! Printing to a writer that fails, and under options.
 
-use super::sizes::with_parameters;
 use super::{assert_printed, assert_that};
 use data_url::DataUrlError;
 use data_url::forgiving_base64::{DecodeError, DecodeToVecError, decode_to_vec};
@@ -56,6 +55,15 @@ fn assert_display<D: fmt::Display>(
         assert_that(rt, wanted, !is_written);
     }
     Ok(())
+}
+
+/// Returns a MIME type with `count` parameters.
+fn with_parameters(alloc: Global, count: u32) -> Result<String, AllocError> {
+    let mut text = String::from_str(alloc, "x/x")?;
+    for number in 1..count.saturating_add(1) {
+        write!(text, ";p{number}=v")?;
+    }
+    Ok(text)
 }
 
 #[test]
