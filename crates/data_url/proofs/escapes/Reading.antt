@@ -1,10 +1,10 @@
 -- What a walk reads: digits after tabs and newlines, the bytes between two places, and blocks with their marks.
 use Rattle.std.proofs.Common.{List, [], ◌∷◌, ◌++◌, length, drop, get_or, Option, None, Some, refl, sym, ap, ◌∙◌, arith}
-use Rattle.std.proofs.Common.{bit_and, w8, Fits, ◌≢◌, inl, inr, ◌==◌, slice_range, take_all, length-take-le, take-take}
+use Rattle.std.proofs.Common.{bit_and, bit_or, w8, Fits, ◌≢◌, inl, inr, ◌==◌, slice_range, take_all, length-take-le, take-take}
 use Rattle.std.proofs.Common.{eqb, ltb, eqb-true, take, append_assoc, length-append, ◌/◌, ◌^◌, map, min, replicate, ◌%◌}
 use Rattle.std.proofs.Common.{map-id, ◌≡◌, ℕ, zero, suc, ◌+◌, ◌*◌, ◌-◌, ◌<◌, ◌≤◌, Bool, true, false, not, cond, ◌&&◌}
 use Rattle.std.{proofs.Common.{leb}, proofs.Math.Nat.{div-div-eq-div-mul, pow-suc}}
-use Rattle.std.proofs.lemmas.Nat.{le_or_l, le_or_r, and_le_r}
+use Rattle.std.proofs.lemmas.Nat.{le_or_l, le_or_r, or_lt, and_le_r}
 use Rattle.std.{proofs.Math.Seq.{take-append-add}, specs.Char.{digit_value, is_ascii_hexdigit}, specs.List.{prefix_len}}
 use Rattle.std.proofs.lemmas.Bool.{agree_below_at, and_left, and_right, cases_Bool, cases_lt, eqb-true}
 use Rattle.std.proofs.lemmas.List.Sums.{prefix_len-drop_yes, prefix_len-drop_no, prefix_len-le-length}
@@ -190,8 +190,41 @@ pub digit_further : {text same : List ℕ} {place looks' : ℕ} (looks looks'' :
 digit_further {text} {same} {place} {looks'} looks looks'' None e l code n h = grind arith
 digit_further {text} {same} {place} {looks'} looks looks'' (Some d) e l code n h = grind arith
 
+-- a byte that is not '%' begins no escape
+begins_other : (b : ℕ) (s : List ℕ) → (b == 37) ≡ false → begins_with_escape (b ∷ s) ≡ false
+begins_other b [] h = refl
+begins_other b (c ∷ []) h = refl
+begins_other b (c ∷ d ∷ s) h = grind (arith, and_left)
+
+-- so none begins at a place of a text where there is no '%'
+pub no_percent : (text : List ℕ) (place : ℕ) → place < length text → (get_or text place 0 == 37) ≡ false
+    → begins_with_escape (drop place text) ≡ false
+no_percent text place l n = rw (drop_more text place 0 l) (begins_other (get_or text place 0) (drop (place + 1) text) n)
+
+-- codes of which one is 16 or more are not both those of digits
+not_digits : (a b high low : ℕ) → IsCode a high → IsCode b low → 16 ≤ bit_or high low
+    → (is_ascii_hexdigit a && is_ascii_hexdigit b) ≡ false
+not_digits a b high low p q h = grind (arith, hex_other, or_lt 4 high low)
+
+-- no escape begins before two bytes that are not both digits
+no_digits_at : (text : List ℕ) (place : ℕ) → place + 3 ≤ length text
+    → (is_ascii_hexdigit (get_or text (place + 1) 0) && is_ascii_hexdigit (get_or text (place + 2) 0)) ≡ false
+    → begins_with_escape (drop place text) ≡ false
+no_digits_at text place w n =
+    rw (
+      drop_more text place 0 (omega arith),
+      drop_more text (place + 1) 0 (omega arith),
+      drop_more text (place + 1 + 1) 0 (omega arith),
+    ) (grind arith)
+
+-- nor before bytes with such codes
+pub no_digits : (text : List ℕ) (place a b high low : ℕ) → place + 3 ≤ length text → a ≡ get_or text (place + 1) 0
+    → b ≡ get_or text (place + 2) 0 → IsCode a high → IsCode b low → 16 ≤ bit_or high low
+    → begins_with_escape (drop place text) ≡ false
+no_digits text place a b high low w e f p q h = no_digits_at text place w (rw (e, f) at (not_digits a b high low p q h))
+
 -- the lemmas for `digit`, `escape` and `escape_here`
-pub ruleset digits = (digit_further, escape_no_high, escape_at, le_or_l, le_or_r)
+pub ruleset digits = (digit_further, escape_no_high, escape_at, le_or_l, le_or_r, no_percent, no_digits)
 
 -- What a walk reads between two places of its text, and the bound on how many bytes it reads. For `stop_at`.
 
@@ -217,12 +250,6 @@ unfolding percent_decoding
 decoded_byte b [] h = refl
 decoded_byte b (c ∷ []) h = refl
 decoded_byte b (c ∷ d ∷ s) h = grind arith
-
--- a byte that is not '%' begins no escape
-begins_other : (b : ℕ) (s : List ℕ) → (b == 37) ≡ false → begins_with_escape (b ∷ s) ≡ false
-begins_other b [] h = refl
-begins_other b (c ∷ []) h = refl
-begins_other b (c ∷ d ∷ s) h = grind (arith, and_left)
 
 -- a text is its bytes before the first '#', and then some other text
 before_first : (s : List ℕ) → (rest : List ℕ) × (s ≡ before 35 s ++ rest)

@@ -156,8 +156,7 @@ impl<'a> Cursor<'a> {
         Piece::Slice(slice)
     }
 
-    /// The next bytes: a long stretch of the text as it is, or shorter ones and the values of escapes, gathered in a
-    /// buffer.
+    /// The next bytes: a long stretch of the text, or shorter ones and the values of escapes, gathered in a buffer.
     #[inline(always)]
     pub(super) fn next_bytes<'r>(&mut self, room: &'r mut [u8; BUFFER_LEN]) -> Option<&'r [u8]>
     where

@@ -2,8 +2,8 @@
 
 #![tactic(auto, using(crate::proofs::escapes::Reading::digits))]
 
-ghost use Rattle.std.specs.Prelude.{◌≡◌, ◌+◌, ◌<◌, ◌≤◌, IfSome, MatchOption, length, slice_index};
-ghost use Rattle.data_url.specs.Url.{percent_sign};
+ghost use Rattle.std.specs.Prelude.{◌≡◌, ◌+◌, ◌<◌, ◌≤◌, MatchOption, drop, false, length, slice_index};
+ghost use Rattle.data_url.specs.{Percent.{begins_with_escape}, Url.{percent_sign}};
 ghost use Rattle.data_url.specs.Steps.Digits.{EscapeAt, IsCode, IsDigitFrom, NoEscape};
 
 use super::source::Source;
@@ -59,7 +59,8 @@ impl<'a> Source<'a> {
         ensures text { self.new.text.now ≡ self.old.text.now }
         ensures looks { self.old.looks ≤ self.new.looks }
         ensures few { self.new.looks ≤ self.old.looks + 3 }
-        ensures found { IfSome result (λ value. EscapeAt self.old.text.now place value (place + 3)) }
+        ensures found { MatchOption result (begins_with_escape (drop place self.old.text.now) ≡ false)
+            (λ value. EscapeAt self.old.text.now place value (place + 3)) }
     {
         if self.look(place) != b'%' {
             return None;
