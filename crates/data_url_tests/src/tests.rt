@@ -2,11 +2,9 @@
 //! function is proved before it runs. A helper takes a table by reference, which is much cheaper to prove than a loop over
 //! its rows by value. Small helpers with few fallible calls are cheaper to prove than one function with many.
 
-mod base64;
 mod capacity;
-mod cuts;
+mod errors;
 mod mime;
-mod pieces;
 mod recorder;
 mod urls;
 mod writers;

@@ -114,14 +114,53 @@ fn write_groups<W: Write>(text: &str, out: &mut W) -> io::Result<()> {
     Ok(())
 }
 
-/// `pieces`: the pieces of a body.
+/// `decoder_lengths`: the lengths of the pieces of a text of base64.
+fn write_group_lengths<W: Write>(text: &str, out: &mut W) -> io::Result<()> {
+    let mut decoder = Decoder::new(|piece: &[u8]| -> io::Result<()> {
+        write_line(out, &piece.len())
+    });
+    if decoder.feed(text.as_bytes()).is_ok() {
+        let _ended = decoder.finish();
+    }
+    Ok(())
+}
+
+/// `decode_lengths`: the lengths of the pieces of the body of a URL.
+fn write_lengths<W: Write>(alloc: Global, text: &str, out: &mut W) -> io::Result<()> {
+    let url = match DataUrl::process(alloc, text) {
+        Ok(url) => url,
+        Err(error) => return write_line(out, &error),
+    };
+    match url.decode(|piece: &[u8]| -> io::Result<()> { write_line(out, &piece.len()) }) {
+        Ok(_) => Ok(()),
+        Err(_) => Ok(()),
+    }
+}
+
+/// Writes a piece: a slice in brackets, or the number of an escape.
+fn write_piece<W: Write>(piece: &Piece, out: &mut W) -> io::Result<()> {
+    match piece {
+        Piece::Slice(slice) => {
+            out.write_all(b"[")?;
+            out.write_all(slice)?;
+            out.write_all(b"]")
+        }
+        Piece::Byte(byte) => write!(out, "{byte}"),
+    }
+}
+
+/// `pieces`: the pieces of a body, and `#` and the fragment, if there is one.
 fn write_walk<W: Write>(text: &str, out: &mut W) -> io::Result<()> {
     let mut pieces = Pieces::new(text);
     for _ in 0..=text.len() {
         match pieces.next() {
-            Some(Piece::Slice(slice)) => out.write_all(slice)?,
-            Some(Piece::Byte(byte)) => out.write_all(&[byte])?,
-            None => return Ok(()),
+            Some(piece) => write_piece(&piece, out)?,
+            None => {
+                return match pieces.fragment() {
+                    Some(fragment) => write!(out, "#{fragment}"),
+                    None => Ok(()),
+                };
+            }
         }
     }
     Ok(())
@@ -139,6 +178,8 @@ fn write_call<W: Write>(alloc: Global, name: &str, text: &str, out: &mut W) -> i
         "new" => write_new(alloc, text, out),
         "base64" => write_base64(alloc, text, out),
         "decoder" => write_groups(text, out),
+        "decoder_lengths" => write_group_lengths(text, out),
+        "decode_lengths" => write_lengths(alloc, text, out),
         "pieces" => write_walk(text, out),
         _ => write_line(out, &"no such call"),
     }
