@@ -2,6 +2,7 @@
 pub mod Chunks
 pub mod Classes
 pub mod Digits
+pub mod Escapes
 pub mod Split
 pub mod Groups
 pub mod Header

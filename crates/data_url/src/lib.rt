@@ -16,6 +16,7 @@ mod fragment;
 mod header;
 pub mod laws;
 pub mod mime;
+mod packing;
 mod percent;
 mod split;
 

@@ -47,7 +47,7 @@ is_code b l =
     record { tab = t.0; digit = t.1; other = t.2 }
 
 -- a hexadecimal digit is neither a tab or newline, nor '#' or '%'
-hex_other : (b : ℕ) → is_ascii_hexdigit b ≡ true → (is_tab_or_newline b ≡ false) × ((b == 35) ≡ false)
+pub hex_other : (b : ℕ) → is_ascii_hexdigit b ≡ true → (is_tab_or_newline b ≡ false) × ((b == 35) ≡ false)
     × (not (b == 37) ≡ true)
 hex_other b h = grind arith
 
@@ -100,7 +100,7 @@ has_digit {text} {place} {looks} {value} {end} {looks'} d =
     grind (arith, drop_more text (end - 1) 0, hex_other, cleaned_keeps, after_other, prefix_len-drop_yes)
 
 -- the text begins with a hexadecimal digit
-abbrev begins_with_digit : List ℕ → Bool
+abbrev pub begins_with_digit : List ℕ → Bool
 begins_with_digit [] = false
 begins_with_digit (b ∷ s) = is_ascii_hexdigit b
 
@@ -191,7 +191,7 @@ digit_further {text} {same} {place} {looks'} looks looks'' None e l code n h = g
 digit_further {text} {same} {place} {looks'} looks looks'' (Some d) e l code n h = grind arith
 
 -- a byte that is not '%' begins no escape
-begins_other : (b : ℕ) (s : List ℕ) → (b == 37) ≡ false → begins_with_escape (b ∷ s) ≡ false
+pub begins_other : (b : ℕ) (s : List ℕ) → (b == 37) ≡ false → begins_with_escape (b ∷ s) ≡ false
 begins_other b [] h = refl
 begins_other b (c ∷ []) h = refl
 begins_other b (c ∷ d ∷ s) h = grind (arith, and_left)
@@ -229,7 +229,7 @@ pub ruleset digits = (digit_further, escape_no_high, escape_at, le_or_l, le_or_r
 -- What a walk reads between two places of its text, and the bound on how many bytes it reads. For `stop_at`.
 
 -- a body is the percent-decoded cleaned tail
-plain_is : (s : List ℕ) → plain_body s ≡ percent_decoding (cleaned s)
+pub plain_is : (s : List ℕ) → plain_body s ≡ percent_decoding (cleaned s)
 unfolding plain_body
 plain_is s = refl
 
@@ -244,7 +244,7 @@ ends_empty [] h = grind (arith, plain_is, cleaned_nil, percent_nil)
 ends_empty (b ∷ s) h = grind (arith, plain_is, cleaned_hash, percent_nil)
 
 -- a byte that does not begin an escape is decoded to itself
-decoded_byte : (b : ℕ) (s : List ℕ) → begins_with_escape (b ∷ s) ≡ false
+pub decoded_byte : (b : ℕ) (s : List ℕ) → begins_with_escape (b ∷ s) ≡ false
     → percent_decoding (b ∷ s) ≡ b ∷ percent_decoding s
 unfolding percent_decoding
 decoded_byte b [] h = refl
@@ -306,7 +306,7 @@ pub spells_escape : {text : List ℕ} {place value end : ℕ} (e : EscapeAt text
 spells_escape {text} {place} {value} {end} e = grind (arith, plain_is, decoded_escape)
 
 -- a byte without a mark is none of the marked bytes
-unmarked : (b : ℕ) → is_marked b ≡ false → (is_tab_or_newline b ≡ false) × ((b == 35) ≡ false) × ((b == 37) ≡ false)
+pub unmarked : (b : ℕ) → is_marked b ≡ false → (is_tab_or_newline b ≡ false) × ((b == 35) ≡ false) × ((b == 37) ≡ false)
 unmarked b h = grind arith
 
 -- n bytes without marks are read as they are

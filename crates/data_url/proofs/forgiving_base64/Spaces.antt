@@ -21,12 +21,12 @@ use Rattle.data_url.proofs.forgiving_base64.Vectors.{is_other, looked_at, others
 -- Bits that are 0
 
 -- mapping the items whose bits are 0 is mapping all items first
-clear_map : (f : ℕ → ℕ) (xs : List ℕ) (m : ℕ) → clear (map f xs) m ≡ map f (clear xs m)
+pub clear_map : (f : ℕ → ℕ) (xs : List ℕ) (m : ℕ) → clear (map f xs) m ≡ map f (clear xs m)
 clear_map f [] m = refl
 clear_map f (x ∷ xs) m = grind (arith, clear_map f xs (m / 2))
 
 -- the items of two lists whose bits are 0
-clear_append : (xs ys : List ℕ) (m : ℕ) → clear (xs ++ ys) m ≡ clear xs m ++ clear ys (m / 2 ^ length xs)
+pub clear_append : (xs ys : List ℕ) (m : ℕ) → clear (xs ++ ys) m ≡ clear xs m ++ clear ys (m / 2 ^ length xs)
 clear_append [] ys m = ap (clear ys) (omega arith)
 clear_append (x ∷ xs) ys m =
     let half : m / 2 ^ length (x ∷ xs) ≡ m / 2 / 2 ^ length xs =
@@ -34,7 +34,7 @@ clear_append (x ∷ xs) ys m =
     grind (arith, clear_append xs ys (m / 2), half)
 
 -- the last bit of a mask is that of the first item
-clear_bit : (b : Bool) (x : ℕ) (xs : List ℕ) (m : ℕ)
+pub clear_bit : (b : Bool) (x : ℕ) (xs : List ℕ) (m : ℕ)
     → clear (x ∷ xs) (cond b 1 0 + 2 * m) ≡ cond b (clear xs m) (x ∷ clear xs m)
 clear_bit true x xs m = grind arith
 clear_bit false x xs m = grind arith
@@ -51,14 +51,14 @@ clear_four a b c d m = grind arith
 -- The table of places
 
 -- whether two lists are equal
-abbrev alike : List ℕ → List ℕ → Bool
+abbrev pub alike : List ℕ → List ℕ → Bool
 alike [] [] = true
 alike [] (y ∷ ys) = false
 alike (x ∷ xs) [] = false
 alike (x ∷ xs) (y ∷ ys) = eqb x y && alike xs ys
 
 -- lists that are alike are equal
-alike_same : (xs ys : List ℕ) → alike xs ys ≡ true → xs ≡ ys
+pub alike_same : (xs ys : List ℕ) → alike xs ys ≡ true → xs ≡ ys
 alike_same [] [] h = refl
 alike_same [] (y ∷ ys) h = absurd (true≢false (sym h))
 alike_same (x ∷ xs) [] h = absurd (true≢false (sym h))

@@ -161,6 +161,12 @@ pub record IsNear (c : Cursor) : Type 0 where
   pub unknown : c.ahead ≡ Unknown
   pub here : c.place < c.block.seen
 
+-- the block that was read last begins at the walk's index, and these are its 64 bytes
+pub record IsWhole (c : Cursor) (bytes : List ℕ) : Type 0 where
+  pub base_is : c.block.base ≡ c.place
+  pub seen_is : c.block.seen ≡ c.place + 64
+  pub bytes_are : bytes ≡ take 64 (drop c.place (text_of c))
+
 -- the walk went on, or its body ends
 abbrev pub Moves : Cursor → Cursor → Type 0
 Moves c c' = MatchBool (has_ended c'.ahead) (Unit {0}) (c.place < c'.place)

@@ -2,16 +2,19 @@
 
 #![tactic(auto, using(crate::proofs::escapes::Walking::walks))]
 
-ghost use Rattle.std.specs.Prelude.{ℕ, [], ◌≡◌, ◌+◌, ◌<◌, ◌≤◌, IsTrue, drop, length, slice_index, true};
+ghost use Rattle.std.specs.Prelude.{ℕ, [], ◌≡◌, ◌+◌, ◌<◌, ◌≤◌, IfNone, IfSome, IsTrue, drop, length, slice_index, true};
+ghost use Rattle.std.specs.Option.{option_map_or};
 ghost use Rattle.data_url.specs.Pieces.{is_slice_end, text_of, walk_at_start, walk_of};
 ghost use Rattle.data_url.specs.Steps.Chunks.{GivesBytes, IsBodyPrefix};
-ghost use Rattle.data_url.specs.Steps.Walk.{Gathering, Gathers, GoesOn, HasRoom, IsGathered, IsNear, IsPart, IsWide, Knows, KnowsAhead, Looking, LooksOn, MayGather, Moves, Searching, Spells};
+ghost use Rattle.data_url.specs.Steps.Walk.{Gathering, Gathers, GoesOn, HasRoom, IsGathered, IsNear, IsPart, IsWhole, IsWide, Knows, KnowsAhead, Looking, LooksOn, MayGather, Moves, Searching, Spells};
 ghost use Rattle.data_url.specs.Steps.Window.{is_marked};
 
 use super::Piece;
-use super::lanes::BLOCK;
+use super::lanes::{BLOCK, decode_escapes, marks_of};
 use super::source::Source;
 use super::stops::{Block, Stop};
+use crate::packing::pack_block;
+use std::simd::prelude::*;
 
 /// How many bytes the buffer holds in which short stretches and values of escapes are gathered.
 pub(crate) const BUFFER_LEN: usize = 512;
@@ -21,6 +24,9 @@ const ESCAPE: usize = 3;
 
 /// With this many marks in a block, its escapes are likely to follow one another.
 const MANY: u32 = 14;
+
+/// With this many marks in a block, it is faster to decode its escapes in lanes than one by one.
+const SEVERAL: u32 = 2;
 
 /// What is known of the text at the place of a walk.
 #[derive(Drop)]
@@ -189,15 +195,108 @@ impl<'a> Cursor<'a> {
         ensures knows { Knows self.new }
     {
         let mut len = self.gather_known(room);
-        while len <= BUFFER_LEN - 2 * BLOCK && self.is_mark_near(len) {
-            let is_followed = self.source.len() - self.block.seen >= BLOCK;
-            len = if is_followed && self.block.marks.count_ones() < MANY {
-                self.gather_block(room, len, false)
-            } else {
-                self.gather_block(room, len, true)
+        while len <= BUFFER_LEN - 2 * BLOCK {
+            let Some(more) = self.gather_more(room, len) else {
+                break;
             };
+            len = more;
         }
         len
+    }
+
+    /// Gathers the next block, or what is left of the last one, after the bytes that were gathered before. Returns how many
+    /// bytes are gathered then, or None if the body ends or a long stretch begins.
+    #[inline(always)]
+    fn gather_more(&mut self, room: &mut [u8; BUFFER_LEN], len: usize) -> Option<usize>
+        requires gathering { Gathering self.old }
+        requires room { len ≤ 384 }
+        ensures gathering { Gathering self.new }
+        ensures gathers { Gathers self.old self.new room.old room.new len (option_map_or (λ n. n) result len) }
+        ensures few { IfSome result (λ n. n ≤ 512) }
+        ensures moves { IfSome result (λ _. Moves self.old self.new × (self.old.ahead ≡ Ahead.Unknown)) }
+    {
+        if self.is_before_whole() {
+            let bytes = self.look_whole();
+            if let Some(more) = self.pack_escapes(bytes, room, len) {
+                return Some(more);
+            }
+        }
+        if !self.is_mark_near(len) {
+            return None;
+        }
+        let is_followed = self.source.len() - self.block.seen >= BLOCK;
+        let dense = !is_followed || self.block.marks.count_ones() >= MANY;
+        Some(self.gather_block(room, len, dense))
+    }
+
+    /// Returns whether the last block was read to its end, and 64 bytes follow.
+    #[inline(always)]
+    fn is_before_whole(&self) -> bool
+        requires { Gathering self.now }
+        ensures { IsTrue result → (self.now.place + 64 ≤ length (text_of self.now))
+            × (self.now.block.seen ≤ self.now.place) × (self.now.ahead ≡ Ahead.Unknown) }
+    {
+        if matches!(self.ahead, Ahead::End) || self.place < self.block.seen {
+            return false;
+        }
+        self.source.len() - self.place >= BLOCK
+    }
+
+    /// Reads the next block, which is a whole one. Returns its bytes.
+    #[inline(always)]
+    fn look_whole(&mut self) -> u8x64
+        requires looking { Looking self.old.source self.old.block self.old.place 0 }
+        requires room { self.old.place + 64 ≤ length (text_of self.old) }
+        requires unseen { self.old.block.seen ≤ self.old.place }
+        ensures looking { Looking self.new.source self.new.block self.new.place 0 }
+        ensures on { LooksOn self.old.source self.new.source }
+        ensures stays { (self.new.place ≡ self.old.place) × (self.new.ahead ≡ self.old.ahead) }
+        ensures whole { IsWhole self.new result }
+    {
+        let place = self.place;
+        let _len = self.source.len();
+        let bytes = self.source.look_bytes(place);
+        self.block = Block {
+            base: place,
+            seen: place + BLOCK,
+            marks: marks_of(bytes, false),
+        };
+        bytes
+    }
+
+    /// Gathers a whole block if it has some marks and each of them begins an escape. The values of the escapes and the other
+    /// bytes are computed and packed in lanes. An escape that ends after the block is left to the next one.
+    #[inline(always)]
+    fn pack_escapes(
+        &mut self,
+        bytes: u8x64,
+        room: &mut [u8; BUFFER_LEN],
+        len: usize,
+    ) -> Option<usize>
+        requires may { MayGather self.old len }
+        requires whole { IsWhole self.old bytes }
+        ensures none { IfNone result ((self.new ≡ self.old) × (room.new ≡ room.old)) }
+        ensures gathers { IfSome result (Gathers self.old self.new room.old room.new len) }
+        ensures gathering { IfSome result (λ n. Gathering self.new × (n ≤ 512) × (self.old.place < self.new.place)) }
+    {
+        let marks = self.block.marks;
+        if marks.count_ones() < SEVERAL {
+            return None;
+        }
+        let (values, starts) = decode_escapes(bytes);
+        if marks % (1 << 62) != starts {
+            return None;
+        }
+        let _len = self.source.len();
+        let used = self.block.len_before_last_marks();
+        let end = pack_block(values, 6 * starts, &mut room[..], len);
+        self.place += used;
+        self.block = Block {
+            base: self.place,
+            seen: self.place,
+            marks: 0,
+        };
+        Some(end - (BLOCK - used))
     }
 
     /// Gathers the escape that is known to be at the place.

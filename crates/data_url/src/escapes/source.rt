@@ -2,7 +2,7 @@
 
 #![tactic(auto, using(crate::proofs::escapes::Walking::sources))]
 
-ghost use Rattle.std.specs.Prelude.{◌≡◌, IsTrue, [], ◌+◌, ◌-◌, ◌^◌, ◌++◌, ◌<◌, ◌≤◌, length, map, min, slice_index, slice_range, take};
+ghost use Rattle.std.specs.Prelude.{◌≡◌, IsTrue, [], ◌+◌, ◌-◌, ◌^◌, ◌++◌, ◌<◌, ◌≤◌, drop, length, map, min, slice_index, slice_range, take};
 ghost use Rattle.std.specs.Simd.Lanes.{mask_l};
 ghost use Rattle.std.specs.Option.{option_map};
 ghost use Rattle.data_url.specs.Steps.Tail.{IsBodyEnd};
@@ -55,6 +55,18 @@ impl<'a> Source<'a> {
     {
         self.looks.count(1);
         self.text.as_bytes()[place]
+    }
+
+    /// Returns the 64 bytes at a place. Each counts as a look.
+    #[inline(always)]
+    pub(super) fn look_bytes(&mut self, place: usize) -> u8x64
+        requires { place + 64 ≤ length self.old.text.now }
+        ensures bytes { result ≡ take 64 (drop place self.old.text.now) }
+        ensures text { self.new.text.now ≡ self.old.text.now }
+        ensures looks { self.new.looks ≡ self.old.looks + 64 }
+    {
+        self.looks.count(BLOCK);
+        u8x64::from_slice(&self.text.as_bytes()[place..])
     }
 
     /// Reads the block of at most 64 bytes at a place. Each of its bytes counts as a look. It is faster if `sparse` says
