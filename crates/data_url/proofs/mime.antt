@@ -1,5 +1,6 @@
 pub mod TokenTexts
 pub mod Items
 pub mod Parsing
+pub mod Fingerprints
 pub mod FirstNames
 pub mod RoundTrips

@@ -1,34 +1,32 @@
 -- Which parameters are kept: the first of each name. For `kept.rt`, and that a record is well formed.
-use Rattle.std.proofs.Common.{drop-cons, add-one, ◌+◌, append_assoc, append-nil, arith, ◌≤◌, not, string_bytes, ◌⊎◌}
+use Rattle.std.proofs.Common.{◌+◌, append_assoc, append-nil, arith, ◌≤◌, not, string_bytes, ◌⊎◌}
 use Rattle.std.proofs.Common.{false, cond, [], ◌∷◌, ◌++◌, get_or, drop, Option, None, Some, refl, ap₂, subst, Global}
-use Rattle.std.proofs.Common.{get_or-take, length-take, length-append, take-append-drop, Decides}
+use Rattle.std.proofs.Common.{slice_index, suc, ◌-◌, ⊎_elim}
+use Rattle.std.proofs.Common.{get_or-take, set, length-take, length-append, take-append-drop}
 use Rattle.std.proofs.Common.{◌≡◌, ℕ, List, String, ap, length, map, min, sym, take, ◌∙◌, ◌<◌, ◌||◌, ◌&&◌, Bool, true}
 use Rattle.std.{proofs.Math.ListN.{drop_of_length-le}, proofs.lemmas.Map.Text.{btree_set_updates_text}}
 use Rattle.std.proofs.lemmas.Bool.{cond-true, not-false, not-true, agree_below_at, and_from, and_parts, cases_lt}
-use Rattle.std.{proofs.lemmas.Bool.{cond_both, false_from_ne_true}, proofs.lemmas.Bool.Decides.{same_from_decides}}
-use Rattle.std.proofs.lemmas.List.Folds.{list_all-append, list_all-map, list_all_at, list_any-append}
-use Rattle.std.proofs.lemmas.List.{length-map, take-map, take_min, map-append, drop-append-le}
+use Rattle.std.{proofs.lemmas.Bool.{cond_both, false_from_ne_true}}
+use Rattle.std.proofs.lemmas.List.Folds.{list_all-append, list_all-map, list_all_at, list_any-append, list_any_at}
+use Rattle.std.proofs.lemmas.List.{get_or-map, length-map, length-set, map-append, drop-append-le}
 use Rattle.std.{proofs.lemmas.Slice.Eq.{bytes_eq-Decides}, specs.List.{list_all}, specs.Ordering.{nat_cmp}}
 use Rattle.std.proofs.lemmas.Str.Ascii.{IsAscii-map, lowercase-lowercase, lowercase_ascii, lowercase_is}
 use Rattle.std.{proofs.lemmas.Str.{chars-IsAscii, chars-nil, IsUtf8-string_bytes}, specs.Char.{to_ascii_lowercase}}
 use Rattle.std.specs.BTreeSet.{BTreeSet, UpdatesBy, contains, contains_text}
 use Rattle.std.{specs.Cmp.Lexicographic.{slice_cmp}, specs.Str.{IsUtf8, bytes_eq, chars}, specs.String.{string_cmp}}
-use Rattle.data_url.specs.{CodePoints.{is_quotable, is_token}, declared.mime.kept.TheConstants.{LOOKED_THROUGH}}
+use Rattle.data_url.specs.CodePoints.{is_quotable, is_token}
+use Rattle.data_url.specs.declared.mime.kept.TheConstants.{LOOKED_THROUGH, FINGERPRINTS_LEN}
 use Rattle.data_url.specs.{Mime.{Parses, Record, has_distinct_names, IsRecordOfParts}, MimeType.{pair_of, code_points}}
 use Rattle.data_url.specs.Mime.{has_name, BeginsParameters, Item, Items, Pair, first_of_each_name, is_lowercase_name}
 use Rattle.data_url.specs.Mime.{is_token_text, kept_pairs, valid_of, valid_pairs, HasNoRecord, IsHead, IsWellformed}
-use Rattle.data_url.specs.Steps.Kept.{first_of, pairs_of, HasLaterNames, IsIndexed}
+use Rattle.data_url.specs.Steps.Kept.{first_of, fingerprint_of, pairs_of, AreFingerprints, HasLaterNames, IsIndexed}
+use Rattle.data_url.specs.Steps.Kept.{SkipsTo}
 use Rattle.data_url.specs.Steps.Parsing.{HasLowercaseNames, added_pairs, after_mark, item_in, pair_if, reading_in}
 use Rattle.data_url.specs.{Steps.Parsing.{unless_named, HasNoHead}, declared.mime.kept.KeptParameters.{KeptParameters}}
 use Rattle.data_url.proofs.mime.Items.{has_items, has_parameter, items_are, items_in, rest_shorter}
+use Rattle.data_url.proofs.mime.Fingerprints.{alike_first, alike_later}
 use Rattle.data_url.proofs.{mime.Parsing.{mark_is}, texts.CodePoints.{no_chars}}
 use Rattle.data_url.proofs.mime.TokenTexts.{bytes_of_ascii, token_text_ascii, token_text_chars}
-
--- the pairs that are searched one by one are the first ones
-pub among_first : (n : List ℕ) (items : List (String _ × String _)) (kept : KeptParameters) (k : ℕ)
-    → k ≡ min LOOKED_THROUGH (length items) → items ≡ kept.pairs.items
-    → has_name n (map (λ p. pair_of p) (take k items)) ≡ has_name n (first_of (pairs_of kept))
-among_first n items kept k e f = cc (take_min LOOKED_THROUGH items, take-map (λ p. pair_of p) LOOKED_THROUGH items)
 
 -- for texts that are not equal, the test of equality is false
 pub test_from_different : (a c : List ℕ) → (a ≡ c → ⊥) → bytes_eq a c ≡ false
@@ -81,22 +79,89 @@ pub some_byte : (n : List ℕ) → is_token_text (chars n) ≡ true → 0 < leng
 some_byte [] h = grind (arith, chars-nil)
 some_byte (b ∷ n) h = omega arith
 
-module _ {kept : KeptParameters} {all : List (String Global × String Global)} (k i : ℕ)
-    {item : String Global × String Global} {key : List ℕ} (x : IsIndexed kept) (e : all ≡ kept.pairs.items)
-    (l : i < length (take k all)) (g : item ≡ get_or (take k all) i item) (f : key ≡ string_bytes item.0) where
-  -- the name at index i of the first k pairs is its bytes, which are in lower case
-  pub key_is : (map to_ascii_lowercase key ≡ key) × (key ≡ code_points item.0)
-  key_is =
-      let h : is_lowercase_name (code_points item.0) ≡ true =
-      grind (arith, list_all_at, list_all-map, get_or-take, length-take) in
-      grind (arith, lower_is_itself, lowercase_bytes)
+-- none of the pairs up to a place has the name
+abbrev pub NoneNamed : List ℕ → List Pair → ℕ → Type 0
+NoneNamed n pairs place = (k : ℕ) → k < place → k < length pairs → bytes_eq (get_or pairs k ([], [])).0 n ≡ false
 
-  -- one of the pairs from there on has a token text in lower case if the key is this text, or a later one has it
-  pub key_next : (n : List ℕ) (r : Bool) → IsUtf8 n → is_token_text (chars n) ≡ true → Decides r (map to_ascii_lowercase
-      key ≡ map to_ascii_lowercase n) → has_name (map to_ascii_lowercase (chars n)) (map (λ p. pair_of p) (drop i (take
-      k all))) ≡ (r || has_name (map to_ascii_lowercase (chars n)) (map (λ p. pair_of p) (drop (i + 1) (take k all))))
-  key_next n r u t d =
-      grind (arith, bytes_of_ascii, token_text_ascii, drop-cons, key_is, add-one, same_from_decides, bytes_eq-Decides)
+-- if none of the pairs up to their end has the name, none has it
+all_unnamed : (n : List ℕ) (pairs : List Pair) (place : ℕ) → NoneNamed n pairs place → length pairs ≤ place
+    → has_name n pairs ≡ false
+all_unnamed n [] place h l = refl
+all_unnamed n (p ∷ pairs) place h l =
+    grind (arith, h 0 (omega arith), all_unnamed n pairs (place - 1) (λ k m r. h (suc k) (omega arith) (omega arith)))
+
+module _ {kept : KeptParameters} {len : ℕ} (x : IsIndexed kept)
+    (e : len ≡ min LOOKED_THROUGH (length kept.pairs.items)) where
+  -- there are so many first pairs
+  first_len : length (first_of (pairs_of kept)) ≡ len
+  first_len = simp (length-take, length-map) (omega arith)
+
+  -- the fingerprint at a place is that of the name of the pair there
+  fingerprint_at : (k : ℕ) → k < len
+      → slice_index kept.fingerprints k ≡ fingerprint_of (get_or (first_of (pairs_of kept)) k ([], [])).0
+  fingerprint_at k l =
+      let first = first_of (pairs_of kept) in
+      let within : k < length first = omega (arith, first_len) in
+      sym (get_or-take (length first) kept.fingerprints k 0 within) ∙ ap (λ s. slice_index s k) x.alike
+      ∙ get_or-map (λ (p : Pair). fingerprint_of p.0) first k ([], []) 0 within
+
+  module _ {n : List ℕ} {b : ℕ} (u : IsUtf8 n) (h : is_token_text (chars n) ≡ true)
+      (f : b ≡ fingerprint_of (map to_ascii_lowercase n)) where
+    -- the name is its bytes
+    same_name : chars n ≡ n
+    same_name = sym (bytes_of_ascii n u (token_text_ascii (chars n) h))
+
+    -- none of the pairs before a place has the name if none before an earlier one has it, and no fingerprint between is
+    -- that of the name
+    pub none_between : {from to : ℕ} → NoneNamed (map to_ascii_lowercase (chars n)) (first_of (pairs_of kept)) from
+        → SkipsTo kept.fingerprints b from to len
+        → NoneNamed (map to_ascii_lowercase (chars n)) (first_of (pairs_of kept)) to
+    none_between {from} {to} g s = λ k m l. ⊎_elim (λ (a : k < from). g k a l) (λ (a : from ≤ k).
+        let within : k < len = omega (arith, first_len) in
+        test_from_different _ _ (λ same. s.none k a m within (fingerprint_at k within
+        ∙ ap fingerprint_of (same ∙ ap (map to_ascii_lowercase) same_name) ∙ sym f))) (cases_lt k from)
+
+    -- if none up to the end has it, none has it
+    pub none_named : {place : ℕ} → NoneNamed (map to_ascii_lowercase (chars n)) (first_of (pairs_of kept)) place
+        → len ≤ place → false ≡ has_name (map to_ascii_lowercase (chars n)) (first_of (pairs_of kept))
+    none_named {place} g l = sym (all_unnamed _ (first_of (pairs_of kept)) place g (omega (arith, first_len)))
+
+    module _ {place : ℕ} {item : String Global × String Global} {key : List ℕ} (l : place < len) (g : item
+        ≡ get_or kept.pairs.items place item) (k : key ≡ string_bytes item.0) where
+      -- the pair at a place
+      item_at : get_or (first_of (pairs_of kept)) place ([], []) ≡ pair_of item
+      item_at =
+          get_or-take LOOKED_THROUGH (pairs_of kept) place ([], []) (omega arith)
+          ∙ get_or-map (λ p. pair_of p) kept.pairs.items place item ([], []) (omega arith) ∙ ap (λ p. pair_of p) (sym g)
+
+      -- its name is its bytes, which are in lower case
+      key_is : (map to_ascii_lowercase key ≡ key) × (key ≡ code_points item.0)
+      key_is =
+          let h : is_lowercase_name (code_points item.0) ≡ true = grind (arith, list_all_at, list_all-map) in
+          grind (arith, lower_is_itself, lowercase_bytes)
+
+      -- the name of the first pair at a place is the key in lower case
+      key_at : (get_or (first_of (pairs_of kept)) place ([], [])).0 ≡ map to_ascii_lowercase key
+      key_at = ap (λ (p : Pair). p.0) item_at ∙ sym (key_is.0 ∙ key_is.1)
+
+      -- if its key is the name in any ASCII case, one of the pairs has the name
+      pub found_named : map to_ascii_lowercase key ≡ map to_ascii_lowercase n
+          → true ≡ has_name (map to_ascii_lowercase (chars n)) (first_of (pairs_of kept))
+      found_named s =
+          let first = first_of (pairs_of kept) in
+          let n' = map to_ascii_lowercase (chars n) in
+          sym (list_any_at (λ (p : Pair). bytes_eq p.0 n') first place ([], []) (omega (arith, first_len))
+          ((bytes_eq-Decides _ n').1 (key_at ∙ s ∙ ap (map to_ascii_lowercase) (sym same_name))))
+
+      -- otherwise, none up to the next place has it if none up to this place has it
+      pub one_more : NoneNamed (map to_ascii_lowercase (chars n)) (first_of (pairs_of kept)) place
+          → (map to_ascii_lowercase key ≡ map to_ascii_lowercase n → ⊥)
+          → NoneNamed (map to_ascii_lowercase (chars n)) (first_of (pairs_of kept)) (place + 1)
+      one_more g s = λ j m r. ⊎_elim (λ (a : j < place). g j a r) (λ (a : place ≤ j).
+          let at : j ≡ place = omega arith in
+          test_from_different _ _ (λ same. s (sym key_at
+          ∙ ap (λ i. (get_or (first_of (pairs_of kept)) i ([], [])).0) (sym at) ∙ same
+          ∙ ap (map to_ascii_lowercase) same_name))) (cases_lt j place)
 
 -- one of the pairs has a name after p is pushed exactly if one had it before, or p has it
 has_pushed : (n : List ℕ) (xs : List Pair) (p : Pair) → has_name n (xs ++ (p ∷ [])) ≡ (has_name n xs || bytes_eq p.0 n)
@@ -186,22 +251,30 @@ module _ {old : KeptParameters} (name value : String Global) (x : IsIndexed old)
     (lower : is_lowercase_name (code_points name) ≡ true) (new : has_name (code_points name) (first_of
     (pairs_of old)) ≡ false)
   where
-    -- a pair that is pushed is added, if its name is new and the set has the names of the later pairs
+    -- a pair that is pushed is added, if its name is new, the fingerprints are of the first pairs, and the set has the
+    -- names of the later pairs
     pushes : (kept : KeptParameters) → has_name (code_points name) (pairs_of old) ≡ false
-        → kept.pairs.items ≡ old.pairs.items ++ ((name, value) ∷ [])
+        → kept.pairs.items ≡ old.pairs.items ++ ((name, value) ∷ []) → length kept.fingerprints ≡ FINGERPRINTS_LEN
+        → AreFingerprints (take (length (first_of (pairs_of old ++ (pair_of (name, value) ∷ [])))) kept.fingerprints)
+        (first_of (pairs_of old ++ (pair_of (name, value) ∷ [])))
         → HasLaterNames kept.later_names (pairs_of old ++ (pair_of (name, value) ∷ []))
         → (pairs_of kept ≡ pairs_of old ++ unless_named (pairs_of old) (pair_of (name, value) ∷ [])) × IsIndexed kept
-    pushes kept n e h = grind (arith, map-append, list_all-append)
+    pushes kept n e r a h = grind (arith, map-append, list_all-append)
 
     -- so it is if it is one of the first pairs
-    pub pushed_first : (kept : KeptParameters) → length old.pairs.items < LOOKED_THROUGH
-        → kept.pairs.items ≡ old.pairs.items ++ ((name, value) ∷ []) → kept.later_names ≡ old.later_names
+    pub pushed_first : (kept : KeptParameters) (place b : ℕ) → place ≡ length old.pairs.items → place < LOOKED_THROUGH
+        → kept.pairs.items ≡ old.pairs.items ++ ((name, value) ∷ []) → b ≡ fingerprint_of (map to_ascii_lowercase
+        (string_bytes name)) → kept.fingerprints ≡ set old.fingerprints place b → kept.later_names ≡ old.later_names
         → (pairs_of kept ≡ pairs_of old ++ unless_named (pairs_of old) (pair_of (name, value) ∷ [])) × IsIndexed kept
-    pushed_first kept l e f =
+    pushed_first kept place b i l e g s f =
         let len = length-map old.pairs.items (λ q. pair_of q) in
+        let its : b ≡ fingerprint_of (code_points name) = g ∙ ap fingerprint_of
+        (ap (map to_ascii_lowercase) (lowercase_bytes name lower) ∙ lower_is_itself (code_points name) lower) in
         pushes kept (first_or_later (code_points name) (pairs_of old) ∙ ap₂ (λ a b. a || b) new
         (few_names (code_points name) (pairs_of old) (omega arith)))
-        e (λ n. ap (λ s. contains_text s n) f ∙ x.later n ∙ few_names n (pairs_of old) (omega arith)
+        e (ap length s ∙ length-set old.fingerprints place b ∙ x.room)
+        (rw s (alike_first old.fingerprints (pairs_of old) (pair_of (name, value)) x.room x.alike (omega arith) l its))
+        (λ n. ap (λ s. contains_text s n) f ∙ x.later n ∙ few_names n (pairs_of old) (omega arith)
         ∙ sym (few_names n (pairs_of old ++ (pair_of (name, value) ∷ [])) (simp length-append (omega arith))))
 
     module _ (copy : String Global) {b : Bool} (same : string_bytes copy ≡ string_bytes name)
@@ -217,12 +290,14 @@ module _ {old : KeptParameters} (name value : String Global) (x : IsIndexed old)
 
       -- if its name is put into the set, the pair is added
       pub pushed_later : (kept : KeptParameters) → b ≡ true → LOOKED_THROUGH ≤ length old.pairs.items → kept.pairs.items
-          ≡ old.pairs.items ++ ((name, value) ∷ []) → UpdatesBy string_cmp (λ k. slice_cmp nat_cmp (string_bytes copy)
-          (string_bytes k)) old.later_names kept.later_names true → (pairs_of kept ≡ pairs_of old ++ unless_named
-          (pairs_of old) (pair_of (name, value) ∷ [])) × IsIndexed kept
-      pushed_later kept t l e u =
+          ≡ old.pairs.items ++ ((name, value) ∷ []) → kept.fingerprints ≡ old.fingerprints → UpdatesBy string_cmp (λ k.
+          slice_cmp nat_cmp (string_bytes copy) (string_bytes k)) old.later_names kept.later_names true → (pairs_of kept
+          ≡ pairs_of old ++ unless_named (pairs_of old) (pair_of (name, value) ∷ [])) × IsIndexed kept
+      pushed_later kept t l e s u =
           let len = length-map old.pairs.items (λ q. pair_of q) in
-          pushes kept (not-true _ (sym set_knows ∙ t)) e (later_names old.later_names kept.later_names (pairs_of old)
+          pushes kept (not-true _ (sym set_knows ∙ t)) e (ap length s ∙ x.room) (rw s (alike_later old.fingerprints
+          (pairs_of old) (pair_of (name, value)) x.room x.alike (omega arith)))
+          (later_names old.later_names kept.later_names (pairs_of old)
           (pair_of (name, value)) copy (omega arith) x.later (same ∙ lowercase_bytes name lower) u)
 
 -- what is true of each pair is true of the first pairs of each name

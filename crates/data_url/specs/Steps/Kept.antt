@@ -1,17 +1,18 @@
 -- What the private contracts of the MIME parser see of the parameters that it has kept so far.
 use Rattle.std.specs.BTreeSet.{BTreeSet, contains_text}
-use Rattle.std.specs.Prelude.{◌≡◌, List, String, drop, map, take, ℕ}
+use Rattle.std.specs.Prelude.{◌%◌, ◌*◌, ◌+◌, ◌-◌, ◌<◌, ◌≡◌, ◌≢◌, ◌≤◌, List, String, drop, length, map}
+use Rattle.std.specs.Prelude.{slice_index, take, ℕ}
 use Rattle.data_url.specs.Mime.{Pair, has_name}
 use Rattle.data_url.specs.MimeType.{pair_of}
 use Rattle.data_url.specs.Steps.Parsing.{HasLowercaseNames}
 use Rattle.data_url.specs.declared.mime.kept.KeptParameters.{KeptParameters}
-use Rattle.data_url.specs.declared.mime.kept.TheConstants.{LOOKED_THROUGH}
+use Rattle.data_url.specs.declared.mime.kept.TheConstants.{FINGERPRINTS_LEN, LOOKED_THROUGH}
 
 -- the pairs as lists of code points
 abbrev pub pairs_of : KeptParameters → List Pair
 pairs_of kept = map (λ p. pair_of p) kept.pairs.items
 
--- the first pairs, whose names are compared one by one
+-- the first pairs, whose names are searched by their fingerprints
 abbrev pub first_of : List Pair → List Pair
 first_of pairs = take LOOKED_THROUGH pairs
 
@@ -20,7 +21,25 @@ abbrev pub HasLaterNames : {A : Type 0} → BTreeSet (String A) → List Pair �
 HasLaterNames later pairs = (name : List ℕ)
     → contains_text later name ≡ has_name name (drop LOOKED_THROUGH pairs)
 
--- all names are lower-case, and the set holds the names of the later pairs
+-- the fingerprint of a name, from its last three bytes
+unfoldable pub fingerprint_of : List ℕ → ℕ
+fingerprint_of name =
+    let last = length name - 1 in
+    (slice_index name last + 10 * slice_index name (last - 1) + 100 * slice_index name (last - 2)) % 256
+
+-- the bytes are the fingerprints of the names of the pairs, in order
+abbrev pub AreFingerprints : List ℕ → List Pair → Type 0
+AreFingerprints bytes pairs = bytes ≡ map (λ (p : Pair). fingerprint_of p.0) pairs
+
+-- none of the places from one up to another that are before the end has this byte
+pub record SkipsTo (bytes : List ℕ) (b from to end : ℕ) : Type 0 where
+  pub on : from ≤ to
+  pub none : (k : ℕ) → from ≤ k → k < to → k < end → slice_index bytes k ≢ b
+
+-- all names are lower-case, the fingerprints are those of the first pairs, and the set holds the names of the later
+-- pairs
 pub record IsIndexed (kept : KeptParameters) : Type 0 where
   pub lower : HasLowercaseNames (pairs_of kept)
+  pub room : length kept.fingerprints ≡ FINGERPRINTS_LEN
+  pub alike : AreFingerprints (take (length (first_of (pairs_of kept))) kept.fingerprints) (first_of (pairs_of kept))
   pub later : HasLaterNames kept.later_names (pairs_of kept)

@@ -7,7 +7,7 @@ ghost use Rattle.data_url.specs.Steps.Classes.{AreOf, is_marked};
 use std::simd::prelude::*;
 
 /// How many bytes are tested together.
-const ROW: usize = 16;
+pub(crate) const ROW: usize = 16;
 
 /// Has, for each high half of a byte, the bit of its column. Bytes from 0x10 to 0x1F and from 0x80 on share one bit.
 #[rattlefmt::skip]

@@ -1,42 +1,51 @@
 //! The parameters that are kept while a MIME type is read: of each name the first.
 
-ghost use Rattle.std.specs.Prelude.{false, Decides, ◌≡◌, ◌<◌, ◌-◌, ◌++◌, ◌∷◌, [], IsTrue, OnOk, length, map, slice_index};
+ghost use Rattle.std.specs.Prelude.{false, ◌≡◌, ◌==◌, ◌<◌, ◌≤◌, ◌+◌, ◌++◌, ◌∷◌, [], IsTrue, OnOk, length, map, ℕ};
 ghost use Rattle.std.specs.Char.{to_ascii_lowercase};
+ghost use Rattle.std.specs.Simd.Lanes.{mask_l};
 ghost use Rattle.std.specs.Str.{chars};
 ghost use Rattle.data_url.specs.Mime.{has_name, is_lowercase_name, is_token_text};
 ghost use Rattle.data_url.specs.MimeType.{code_points};
 ghost use Rattle.data_url.specs.Steps.Parsing.{unless_named};
-ghost use Rattle.data_url.specs.Steps.Kept.{IsIndexed, first_of, pairs_of};
+ghost use Rattle.data_url.specs.Steps.Kept.{IsIndexed, SkipsTo, fingerprint_of, first_of, pairs_of};
 
+use crate::classes::lanes::{ROW, row};
 use std::alloc::AllocError;
 use std::collections::BTreeSet;
+use std::simd::prelude::*;
 
-/// How many pairs are searched one by one. For this few, that is faster than a search in a set.
+/// How many pairs are searched by their fingerprints. For this few, that is faster than a search in a set.
 const LOOKED_THROUGH: usize = 128;
 
-/// The pairs that are kept. The names of those after the first ones are also in a set, so that they are found fast
-/// among many.
+/// The size of the array of fingerprints, so that a row can be read from the place of each.
+pub(super) const FINGERPRINTS_LEN: usize = 144;
+
+/// The pairs that are kept. Of the first ones there is a fingerprint each, so that a search compares the names of few.
+/// The names of the later ones are also in a set.
 #[derive(Drop)]
 pub(super) struct KeptParameters {
     pub(super) pairs: Vec<(String, String)>,
+    pub(super) fingerprints: [u8; FINGERPRINTS_LEN],
     pub(super) later_names: BTreeSet<String>,
 }
 
 impl KeptParameters {
     /// Whether one of the first pairs has the name, in any ASCII case.
-    #[tactic(auto, using(crate::proofs::mime::FirstNames::key_is, crate::proofs::mime::FirstNames::some_byte))]
+    #[tactic(auto, using(crate::proofs::mime::FirstNames::some_byte))]
     pub(super) fn is_among_first(&self, name: &str) -> bool
         requires indexed { IsIndexed self.now }
         requires token { IsTrue (is_token_text (chars name.now)) }
         ensures { result ≡ has_name (map to_ascii_lowercase (chars name.now))
             (first_of (pairs_of self.now)) }
     {
-        let first = &self.pairs[..LOOKED_THROUGH.min(self.pairs.len())];
-        let last = name.as_bytes()[name.len() - 1].to_ascii_lowercase();
-        for (key, _) in first {
-            if is_named(key.as_str(), name, last) {
+        let len = LOOKED_THROUGH.min(self.pairs.len());
+        let fingerprint = fingerprint(name);
+        let mut place = next_alike(&self.fingerprints, fingerprint, 0, len);
+        while place < len {
+            if self.pairs[place].0.eq_ignore_ascii_case(name) {
                 return true;
             }
+            place = next_alike(&self.fingerprints, fingerprint, place + 1, len);
         }
         false
     }
@@ -51,8 +60,10 @@ impl KeptParameters {
             ++ unless_named (pairs_of self.old) ((code_points name, code_points value) ∷ [])) }
         ensures indexed { OnOk result (IsIndexed self.new) }
     {
-        let is_later = self.pairs.len() >= LOOKED_THROUGH;
-        if is_later && !self.later_names.insert(name.clone()?)? {
+        let place = self.pairs.len();
+        if place < LOOKED_THROUGH {
+            self.fingerprints[place] = fingerprint(name.as_str());
+        } else if !self.later_names.insert(name.clone()?)? {
             return Ok(());
         }
         self.pairs.push((name, value))?;
@@ -60,15 +71,49 @@ impl KeptParameters {
     }
 }
 
-/// Whether a key in lower case is a name, in any ASCII case. The last byte, which is given in lower case, is compared
-/// first: numbered names differ there.
+/// Returns a byte for a name, the same in any ASCII case. It is computed from the last bytes, in which numbered names
+/// differ.
 #[inline(always)]
-fn is_named(key: &str, name: &str, last: u8) -> bool
-    requires key { map to_ascii_lowercase key.now ≡ key.now }
-    requires some { 0 < length name.now }
-    requires last { last ≡ to_ascii_lowercase (slice_index name.now (length name.now - 1)) }
-    ensures { Decides result (map to_ascii_lowercase key.now ≡ map to_ascii_lowercase name.now) }
+fn fingerprint(name: &str) -> u8
+    requires { 0 < length name.now }
+    ensures { result ≡ fingerprint_of (map to_ascii_lowercase name.now) }
 {
-    let len = key.len();
-    len == name.len() && key.as_bytes()[len - 1] == last && key.eq_ignore_ascii_case(name)
+    let bytes = name.as_bytes();
+    let last = bytes.len() - 1;
+    let ones = bytes[last].to_ascii_lowercase();
+    let tens = bytes[last.saturating_sub(1)].to_ascii_lowercase();
+    let hundreds = bytes[last.saturating_sub(2)].to_ascii_lowercase();
+    let sum = u32::from(ones) + 10 * u32::from(tens) + 100 * u32::from(hundreds);
+    (sum % 256) as u8
+}
+
+/// Returns a bit for each fingerprint of a row, which is set where it is this one.
+#[inline(always)]
+fn alike(fingerprint: u8, row: u8x16) -> u64
+    ensures { result ≡ mask_l (map (λ b. b == fingerprint) row) }
+{
+    row.simd_eq(u8x16::splat(fingerprint)).to_bitmask()
+}
+
+/// Returns the first place with this fingerprint from a place on. If there is none before the end, returns the end or
+/// a later place.
+#[inline(always)]
+fn next_alike(
+    fingerprints: &[u8; FINGERPRINTS_LEN],
+    fingerprint: u8,
+    from: usize,
+    end: usize,
+) -> usize
+    requires { end ≤ 128 }
+    ensures { SkipsTo fingerprints.now fingerprint from result end }
+{
+    let mut at = from;
+    while at < end {
+        let marks = alike(fingerprint, row(fingerprints, at));
+        if marks != 0 {
+            return at + marks.trailing_zeros() as usize;
+        }
+        at += ROW;
+    }
+    at
 }

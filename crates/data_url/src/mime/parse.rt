@@ -13,7 +13,7 @@ use super::cuts::{
     after_mark, from_semicolon, name_len, parameter_len, without_leading_whitespace,
     without_trailing_whitespace,
 };
-use super::kept::KeptParameters;
+use super::kept::{FINGERPRINTS_LEN, KeptParameters};
 use super::tokens::{is_token_text, split_tokens};
 use super::values::{Value, lowercased};
 use crate::classes::{Class, long_span};
@@ -173,6 +173,7 @@ pub(super) fn read_parameters(
     let capacity = ((text.len() / LEAST_LEN + 1) / 2).min(MOST);
     let mut kept = KeptParameters {
         pairs: Vec::with_capacity(alloc, capacity)?,
+        fingerprints: [0; FINGERPRINTS_LEN],
         later_names: BTreeSet::new(alloc),
     };
     let mut rest = text;

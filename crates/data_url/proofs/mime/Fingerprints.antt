@@ -1,0 +1,72 @@
+-- Fingerprints of names, and a search for one among them. For `kept.rt`.
+use Rattle.std.proofs.Common.{◌≡◌, ◌≢◌, ℕ, zero, suc, ◌+◌, ◌-◌, ◌*◌, ◌%◌, ◌<◌, ◌≤◌, ◌==◌, not}
+use Rattle.std.proofs.Common.{List, [], ◌∷◌, ◌++◌, length, map, take, drop, set, slice_index, refl, sym, ap, ◌∙◌, arith}
+use Rattle.std.proofs.Common.{⊎_elim, length-append, length-drop, length-take-le, take_all}
+use Rattle.std.{proofs.lemmas.Bool.{cases_lt, eqb-false}, specs.List.{prefix_len}}
+use Rattle.std.proofs.lemmas.List.{length-map, map-append, take-append-le, take_more_set}
+use Rattle.std.proofs.lemmas.Simd.{none_from_empty_mask, run_in_chunk_fails, trailing_mask_l}
+use Rattle.std.{specs.Char.{to_ascii_lowercase}, specs.Int.Count.{count_trailing_zeros}, specs.Simd.Lanes.{mask_l}}
+use Rattle.data_url.specs.{Mime.{Pair}, Steps.Kept.{AreFingerprints, SkipsTo, fingerprint_of, first_of}}
+use Rattle.data_url.specs.declared.mime.kept.TheConstants.{FINGERPRINTS_LEN, LOOKED_THROUGH}
+
+-- the byte at a place of a text in lower case, if any
+lower_at : (t : List ℕ) (k : ℕ) → slice_index (map to_ascii_lowercase t) k ≡ to_ascii_lowercase (slice_index t k)
+lower_at [] k = refl
+lower_at (c ∷ t) zero = refl
+lower_at (c ∷ t) (suc k) = lower_at t k
+
+-- what is computed from the last three bytes of a name, in lower case, is the fingerprint of the name in lower case
+pub fingerprint_is : (t : List ℕ) (last a b c : ℕ) → last ≡ length t - 1 → a ≡ to_ascii_lowercase (slice_index t last)
+    → b ≡ to_ascii_lowercase (slice_index t (last - 1)) → c ≡ to_ascii_lowercase (slice_index t (last - 2))
+    → (a + 10 * b + 100 * c) % 256 ≡ fingerprint_of (map to_ascii_lowercase t)
+unfolding fingerprint_of
+fingerprint_is t last a b c l e f g =
+    cc (length-map t to_ascii_lowercase, lower_at t last, lower_at t (last - 1), lower_at t (last - 2))
+
+module _ {bytes : List ℕ} {b from at end marks : ℕ} (h : SkipsTo bytes b from at end) (room : at + 16 ≤ length bytes)
+    (e : marks ≡ mask_l (map (λ c. c == b) (take 16 (drop at bytes)))) where
+  -- if no byte of the row at a place is b, the search goes on after the row
+  pub row_skipped : marks ≡ 0 → SkipsTo bytes b from (at + 16) end
+  row_skipped z = record {
+    on = omega (arith, h.on);
+    none = λ k g t l. ⊎_elim (λ (m : k < at). h.none k g m l) (λ (m : at ≤ k).
+        eqb-false _ _ (none_from_empty_mask (λ c. c == b) bytes at 16 0 room (sym e ∙ z) k m t)) (cases_lt k at);
+  }
+
+  -- otherwise, it ends at the first byte of the row that is b
+  pub found_alike : (n : ℕ) → marks ≢ 0 → n ≡ count_trailing_zeros 64 marks → SkipsTo bytes b from (at + n) end
+  found_alike n z f =
+      let row = take 16 (drop at bytes) in
+      let long = length-take-le 16 (drop at bytes) (omega (arith, length-drop {A = ℕ})) in
+      let counted : n ≡ prefix_len (λ c. not (c == b)) row =
+      f ∙ ap (count_trailing_zeros 64) e ∙ trailing_mask_l (λ c. c == b) 64 row (omega arith) (omega (arith, e)) in
+      record {
+        on = omega (arith, h.on);
+        none = λ k g t l. ⊎_elim (λ (m : k < at). h.none k g m l) (λ (m : at ≤ k).
+            eqb-false _ _ (run_in_chunk_fails (λ c. c == b) bytes at 16 n 0 room counted k m t)) (cases_lt k at);
+      }
+
+module _ (bytes : List ℕ) (pairs : List Pair) (p : Pair) (room : length bytes ≡ FINGERPRINTS_LEN)
+    (h : AreFingerprints (take (length (first_of pairs)) bytes) (first_of pairs)) where
+  -- if a pair that is pushed is one of the first ones, and its fingerprint is put into its place, it is the fingerprint
+  -- of the pair
+  pub alike_first : {b place : ℕ} → place ≡ length pairs → place < LOOKED_THROUGH → b ≡ fingerprint_of p.0
+      → AreFingerprints (take (length (first_of (pairs ++ (p ∷ [])))) (set bytes place b))
+      (first_of (pairs ++ (p ∷ [])))
+  alike_first {b} {place} e l f =
+      let before : first_of pairs ≡ pairs = take_all LOOKED_THROUGH pairs (omega arith) in
+      let after : first_of (pairs ++ (p ∷ [])) ≡ pairs ++ (p ∷ []) =
+      take_all LOOKED_THROUGH (pairs ++ (p ∷ [])) (simp length-append (omega arith)) in
+      let long : length (pairs ++ (p ∷ [])) ≡ place + 1 = simp length-append (omega arith) in
+      let old : take place bytes ≡ map (λ (q : Pair). fingerprint_of q.0) pairs =
+      ap (λ n. take n bytes) e ∙ ap (λ (qs : List Pair). take (length qs) bytes) (sym before) ∙ h
+      ∙ ap (λ (qs : List Pair). map (λ (q : Pair). fingerprint_of q.0) qs) before in
+      rw after (cc (
+        take_more_set bytes place b (omega arith),
+        map-append (λ (q : Pair). fingerprint_of q.0) pairs (p ∷ []),
+      ))
+
+  -- if it comes after the first ones, the fingerprints stay the same
+  pub alike_later : LOOKED_THROUGH ≤ length pairs
+      → AreFingerprints (take (length (first_of (pairs ++ (p ∷ [])))) bytes) (first_of (pairs ++ (p ∷ [])))
+  alike_later l = rw (take-append-le LOOKED_THROUGH pairs (p ∷ []) l) h
