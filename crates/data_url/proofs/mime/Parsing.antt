@@ -8,7 +8,7 @@ use Rattle.std.proofs.lemmas.Bool.{agree_below_at, false≢true}
 use Rattle.std.{proofs.lemmas.List.Folds.{list_all-append}, proofs.lemmas.Str.{cons_from_encodes}}
 use Rattle.std.proofs.lemmas.List.Sums.{prefix_len-le-length, prefix_len_passes, suffix_len-le-length}
 use Rattle.std.proofs.lemmas.Str.{chars-append, chars-nil, chars_past_char, encodes-chars, IsUtf8-encode}
-use Rattle.std.{specs.Char.{IsScalar, to_ascii_lowercase}, specs.List.{list_all, prefix_len}, specs.Str.{IsUtf8, chars}}
+use Rattle.std.{specs.Char.{to_ascii_lowercase}, specs.List.{list_all, prefix_len}, specs.Str.{IsUtf8, chars}}
 use Rattle.data_url.specs.{CodePoints.{is_http_whitespace, is_quotable, is_token}, Url.{without_end, without_start}}
 use Rattle.data_url.specs.Mime.{Every, unless_empty, BeginsParameters, IsHead, is_token_text, valid_of}
 use Rattle.data_url.specs.Steps.Parsing.{DoesNotEnd}
@@ -127,32 +127,6 @@ unescaped_steady c l = grind arith
 pub copied : (v q bytes : List ℕ) (n : ℕ) → IsUtf8 q → bytes ≡ q → n ≡ prefix_len (λ c. not (is_escaped c)) bytes
     → n ≡ length q → v ≡ q → chars v ≡ unescaped false (chars q)
 copied v q bytes n u e f g h = grind (arith, whole_passes, unescaped_steady, stays_unescaped)
-
--- the encoding of a Unicode scalar value, after a UTF-8 text, adds its code point to those of the text
-chars_push : (v : List ℕ) (c : ℕ) → IsUtf8 v → IsScalar c → chars (v ++ encode c) ≡ chars v ++ (c ∷ [])
-chars_push v c u s =
-    grind (arith, chars_past_char (encode c) [] c (IsUtf8-encode c s), append-nil, chars-append, chars-nil)
-
--- if nothing is written, the value of the whole text is left
-pub unescape_starts : (v r q : List ℕ) → v ≡ [] → r ≡ q
-    → chars v ++ unescaped false (chars r) ≡ unescaped false (chars q)
-unescape_starts v r q e f = rw (e, f, chars-nil) refl
-
-module _ (r r' v : List ℕ) {c : ℕ} {e : Bool} {whole : List ℕ} (u : IsUtf8 r) (s : r ≡ encode c ++ r')
-    (h : chars v ++ unescaped e (chars r) ≡ whole) where
-  -- if the first code point is a '\' that escapes, leaving it out preserves the whole
-  pub unescape_skips : c ≡ 92 → e ≡ false → chars v ++ unescaped true (chars r') ≡ whole
-  unescape_skips k f = grind (arith, chars_past_char)
-
-  -- moving another first code point to what is written preserves the whole
-  pub unescape_pushes : (v' : List ℕ) → IsUtf8 v → v' ≡ v ++ encode c → ((c ≡ 92) × (e ≡ true)) ⊎ (c ≡ 92 → ⊥)
-      → chars v' ++ unescaped false (chars r') ≡ whole
-  unescape_pushes v' w g k = grind (arith, chars_past_char, cons_from_encodes, chars_push, append_assoc)
-
--- if nothing is left, a '\' that would escape the next code point is a part of the value
-pub unescape_ends : (r v : List ℕ) {e : Bool} {whole : List ℕ} → length r ≡ 0 → chars v ++ unescaped e (chars r) ≡ whole
-    → (e ≡ false → chars v ≡ whole) × ((v' : List ℕ) → IsUtf8 v → e ≡ true → v' ≡ v ++ encode 92 → chars v' ≡ whole)
-unescape_ends r v l h = grind (arith, append-nil, no_chars, chars_push)
 
 -- the lemmas for `read_plain`
 pub ruleset plain_values = (cut_plain, no_value, some_value)

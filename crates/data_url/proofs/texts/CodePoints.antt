@@ -107,7 +107,7 @@ unfolding encode
 front_char p c r s = grind (arith, s)
 
 -- the longest prefix of an encoded text is that of the text, encoded
-front_encodes : (p : ℕ → Bool) → IsSteady p → (cs : List ℕ)
+pub front_encodes : (p : ℕ → Bool) → IsSteady p → (cs : List ℕ)
     → prefix_len p (encode_utf8_all cs) ≡ length (encode_utf8_all (front_of p cs))
 front_encodes p s [] = refl
 front_encodes p s (c ∷ cs) = front_char p c (encode_utf8_all cs) s ∙ elim (p c) as (λ v.

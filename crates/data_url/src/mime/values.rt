@@ -1,14 +1,15 @@
 //! Values of parameters, as slices of a text and as texts of their own.
 #![tactic(auto, using(crate::proofs::mime::FirstNames::lower_chars, crate::proofs::mime::Parsing::quotable_by))]
 
-ghost use Rattle.std.specs.Prelude.{◌≡◌, IfOk, IsTrue, false, map};
+ghost use Rattle.std.specs.Prelude.{◌≡◌, ◌<◌, ◌≤◌, IfOk, IsTrue, false, length, map, true};
 ghost use Rattle.std.specs.Char.{to_ascii_lowercase};
 ghost use Rattle.std.specs.Option.{option_map};
 ghost use Rattle.std.specs.Str.{chars};
 ghost use Rattle.data_url.specs.Mime.{is_token_text};
-ghost use Rattle.data_url.specs.Steps.Parsing.{unescaped, value_of};
+ghost use Rattle.data_url.specs.Steps.Parsing.{IsLiteral, unescaped, value_of};
 ghost use Rattle.data_url.specs.MimeType.{code_points};
 
+use super::cuts::after_mark;
 use crate::classes::{Class, long_span};
 use std::alloc::{AllocError, Global};
 
@@ -40,27 +41,49 @@ impl<'a> Value<'a> {
 }
 
 /// Returns the value of a quoted string: without the `\` before a code point.
-#[tactic(auto, using(crate::proofs::mime::Parsing::unescape_starts))]
 fn unescaped(alloc: Global, quoted: &str) -> Result<String, AllocError>
     ensures { IfOk result (λ text. code_points text ≡ unescaped false (chars quoted.now)) }
 {
-    if long_span(Class::Unescaped, quoted.as_bytes()) == quoted.len() {
+    let mut len = long_span(Class::Unescaped, quoted.as_bytes());
+    if len == quoted.len() {
         return String::from_str(alloc, quoted);
     }
     let mut value = String::with_capacity(alloc, quoted.len())?;
-    let mut escaped = false;
-    for c in quoted.chars() {
-        if c == '\\' && !escaped {
-            escaped = true;
-        } else {
-            escaped = false;
-            value.push(c)?;
-        }
+    let mut rest = quoted;
+    while len < rest.len() {
+        value.push_str(&rest[..len])?;
+        rest = without_escape(&rest[len..]);
+        len = literal_len(rest);
     }
-    if escaped {
-        value.push('\\')?;
-    }
+    value.push_str(rest)?;
     Ok(value)
+}
+
+/// Returns the text without the `\` that it begins with, if this is before a code point.
+#[inline(always)]
+fn without_escape(text: &str) -> &str
+    requires { 0 < length text.now }
+    ensures some { 0 < length result.now }
+    ensures shorter { length result.now ≤ length text.now }
+    ensures value { unescaped true (chars result.now) ≡ unescaped false (chars text.now) }
+{
+    let Some(after) = after_mark(text, '\\') else {
+        return text;
+    };
+    if after.is_empty() {
+        return text;
+    }
+    after
+}
+
+/// Returns how many bytes stand for themselves at the start of a text whose first code point does.
+#[inline(always)]
+fn literal_len(text: &str) -> usize
+    requires { 0 < length text.now }
+    ensures some { 0 < result }
+    ensures literal { IsLiteral true text.now result }
+{
+    1 + long_span(Class::Unescaped, &text.as_bytes()[1..])
 }
 
 /// A text of token code points, in ASCII lower case.

@@ -1,8 +1,16 @@
--- What was written and the value of the rest are together the whole value.
-use Rattle.std.{proofs.Common.{◌≡◌, ◌++◌, false}, specs.Str.{IsUtf8, chars}, specs.Str.Iter.{chars_rest}}
-use Rattle.data_url.specs.{MimeType.{code_points}, Steps.Parsing.{unescaped}}
+-- What was written, the next bytes that stand for themselves, and the value of what follows them are the whole value.
+use Rattle.std.{proofs.Common.{◌-◌, length}}
+use Rattle.data_url.specs.{MimeType.{code_points}}
+use Rattle.data_url.proofs.mime.Escapes.{Unescaping}
+use denote.Shadow.{shadow}
+use denote.Text.{Utf8}
 use Rattle.data_url.proofs.mime.values.unescaped.Given as goal
 
-abbrev pub invariant-loop-c : goal.invariant-loop-c
-invariant-loop-c l = IsUtf8 (chars_rest l.c-iterator)
-    × (code_points l.value ++ unescaped l.escaped (chars (chars_rest l.c-iterator)) ≡ unescaped false (chars l.quoted))
+abbrev pub invariant-loop-len : goal.invariant-loop-len
+invariant-loop-len l = record {
+  text : shadow (Utf8 l.rest);
+  value : Unescaping l.quoted (code_points l.value) l.rest l.len;
+}
+
+abbrev pub decreases-loop-len : goal.decreases-loop-len
+decreases-loop-len l = length l.rest - l.len
