@@ -1,10 +1,10 @@
 -- Fingerprints of names, and a search for one among them. For `kept.rt`.
-use Rattle.std.proofs.Common.{◌≡◌, ◌≢◌, ℕ, zero, suc, ◌+◌, ◌-◌, ◌*◌, ◌%◌, ◌<◌, ◌≤◌, ◌==◌, not}
+use Rattle.std.proofs.Common.{◌≡◌, ◌≢◌, ℕ, zero, suc, ◌+◌, ◌-◌, ◌*◌, ◌%◌, ◌<◌, ◌≤◌, ◌==◌, Bool, not, false}
 use Rattle.std.proofs.Common.{List, [], ◌∷◌, ◌++◌, length, map, take, drop, set, slice_index, refl, sym, ap, ◌∙◌, arith}
 use Rattle.std.proofs.Common.{⊎_elim, length-append, length-drop, length-take-le, take_all}
-use Rattle.std.{proofs.lemmas.Bool.{cases_lt, eqb-false}, specs.List.{prefix_len}}
+use Rattle.std.{proofs.lemmas.Bool.{cases_lt, eqb-false, eqb-true}, specs.List.{prefix_len}}
 use Rattle.std.proofs.lemmas.List.{length-map, map-append, take-append-le, take_more_set}
-use Rattle.std.proofs.lemmas.Simd.{none_from_empty_mask, run_in_chunk_fails, trailing_mask_l}
+use Rattle.std.proofs.lemmas.Simd.{none_from_empty_mask, run_in_chunk_fails, run_in_chunk_stops, trailing_mask_l}
 use Rattle.std.{specs.Char.{to_ascii_lowercase}, specs.Int.Count.{count_trailing_zeros}, specs.Simd.Lanes.{mask_l}}
 use Rattle.data_url.specs.{Mime.{Pair}, Steps.Kept.{AreFingerprints, SkipsTo, fingerprint_of, first_of}}
 use Rattle.data_url.specs.declared.mime.kept.TheConstants.{FINGERPRINTS_LEN, LOOKED_THROUGH}
@@ -23,28 +23,39 @@ unfolding fingerprint_of
 fingerprint_is t last a b c l e f g =
     cc (length-map t to_ascii_lowercase, lower_at t last, lower_at t (last - 1), lower_at t (last - 2))
 
+-- if the mask of the items that pass is not 0, one of them passes
+some_passes : (p : ℕ → Bool) (xs : List ℕ) → mask_l (map p xs) ≢ 0 → prefix_len (λ x. not (p x)) xs < length xs
+some_passes p [] n = absurd (n refl)
+some_passes p (x ∷ xs) n = grind (arith, some_passes p xs)
+
 module _ {bytes : List ℕ} {b from at end marks : ℕ} (h : SkipsTo bytes b from at end) (room : at + 16 ≤ length bytes)
     (e : marks ≡ mask_l (map (λ c. c == b) (take 16 (drop at bytes)))) where
-  -- if no byte of the row at a place is b, the search goes on after the row
-  pub row_skipped : marks ≡ 0 → SkipsTo bytes b from (at + 16) end
-  row_skipped z = record {
+  -- the search goes on to a place if the bytes before it in the row at the place that was reached are not b
+  further : (to : ℕ) → at ≤ to → ((k : ℕ) → at ≤ k → k < to → (slice_index bytes k == b) ≡ false)
+      → SkipsTo bytes b from to end
+  further to l none = record {
     on = omega (arith, h.on);
-    none = λ k g t l. ⊎_elim (λ (m : k < at). h.none k g m l) (λ (m : at ≤ k).
-        eqb-false _ _ (none_from_empty_mask (λ c. c == b) bytes at 16 0 room (sym e ∙ z) k m t)) (cases_lt k at);
+    none = λ k g t m. ⊎_elim (λ (a : k < at). h.none k g a m) (λ (a : at ≤ k). eqb-false _ _ (none k a t)) (cases_lt k at);
   }
 
+  -- if no byte of the row is b, the search goes on after the row
+  pub row_skipped : marks ≡ 0 → SkipsTo bytes b from (at + 16) end
+  row_skipped z = further (at + 16) (omega arith)
+      (none_from_empty_mask (λ c. c == b) bytes at 16 0 room (sym e ∙ z))
+
   -- otherwise, it ends at the first byte of the row that is b
-  pub found_alike : (n : ℕ) → marks ≢ 0 → n ≡ count_trailing_zeros 64 marks → SkipsTo bytes b from (at + n) end
+  pub found_alike : (n : ℕ) → marks ≢ 0 → n ≡ count_trailing_zeros 64 marks
+      → SkipsTo bytes b from (at + n) end × (slice_index bytes (at + n) ≡ b)
   found_alike n z f =
       let row = take 16 (drop at bytes) in
+      let p : ℕ → Bool = λ c. c == b in
       let long = length-take-le 16 (drop at bytes) (omega (arith, length-drop {A = ℕ})) in
-      let counted : n ≡ prefix_len (λ c. not (c == b)) row =
-      f ∙ ap (count_trailing_zeros 64) e ∙ trailing_mask_l (λ c. c == b) 64 row (omega arith) (omega (arith, e)) in
-      record {
-        on = omega (arith, h.on);
-        none = λ k g t l. ⊎_elim (λ (m : k < at). h.none k g m l) (λ (m : at ≤ k).
-            eqb-false _ _ (run_in_chunk_fails (λ c. c == b) bytes at 16 n 0 room counted k m t)) (cases_lt k at);
-      }
+      let counted : n ≡ prefix_len (λ c. not (p c)) row =
+      f ∙ ap (count_trailing_zeros 64) e ∙ trailing_mask_l p 64 row (omega arith) (omega (arith, e)) in
+      let few = some_passes p row (λ k. z (e ∙ k)) in (
+        further (at + n) (omega arith) (run_in_chunk_fails p bytes at 16 n 0 room counted),
+        eqb-true _ _ (run_in_chunk_stops p bytes at 16 n 0 room counted (omega arith)),
+      )
 
 module _ (bytes : List ℕ) (pairs : List Pair) (p : Pair) (room : length bytes ≡ FINGERPRINTS_LEN)
     (h : AreFingerprints (take (length (first_of pairs)) bytes) (first_of pairs)) where

@@ -31,7 +31,7 @@ fingerprint_of name =
 abbrev pub AreFingerprints : List ℕ → List Pair → Type 0
 AreFingerprints bytes pairs = bytes ≡ map (λ (p : Pair). fingerprint_of p.0) pairs
 
--- none of the places from one up to another that are before the end has this byte
+-- no place from `from` on that is before `to` and before `end` has this byte
 pub record SkipsTo (bytes : List ℕ) (b from to end : ℕ) : Type 0 where
   pub on : from ≤ to
   pub none : (k : ℕ) → from ≤ k → k < to → k < end → slice_index bytes k ≢ b

@@ -1,6 +1,6 @@
 //! The parameters that are kept while a MIME type is read: of each name the first.
 
-ghost use Rattle.std.specs.Prelude.{false, ◌≡◌, ◌==◌, ◌<◌, ◌≤◌, ◌+◌, ◌++◌, ◌∷◌, [], IsTrue, OnOk, length, map, ℕ};
+ghost use Rattle.std.specs.Prelude.{false, ◌≡◌, ◌==◌, ◌<◌, ◌≤◌, ◌+◌, ◌++◌, ◌∷◌, [], IsTrue, OnOk, length, map, slice_index};
 ghost use Rattle.std.specs.Char.{to_ascii_lowercase};
 ghost use Rattle.std.specs.Simd.Lanes.{mask_l};
 ghost use Rattle.std.specs.Str.{chars};
@@ -105,7 +105,8 @@ fn next_alike(
     end: usize,
 ) -> usize
     requires { end ≤ 128 }
-    ensures { SkipsTo fingerprints.now fingerprint from result end }
+    ensures skips { SkipsTo fingerprints.now fingerprint from result end }
+    ensures found { result < end → slice_index fingerprints.now result ≡ fingerprint }
 {
     let mut at = from;
     while at < end {

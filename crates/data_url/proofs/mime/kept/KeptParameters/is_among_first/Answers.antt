@@ -5,7 +5,7 @@ use Rattle.data_url.proofs.mime.kept.KeptParameters.is_among_first.Goals as goal
 
 pub loop-place-init : goal.loop-place-init
 loop-place-init c = none_between c.requires.indexed (omega arith) c.utf8.name c.requires.token
-    c.fingerprint-fingerprint.ensures (λ k l. absurd (omega arith)) c.next_alike-place.ensures
+    c.fingerprint-fingerprint.ensures (λ k l. absurd (omega arith)) c.next_alike-place.ensures.skips
 
 pub returns-then-eq_ignore_ascii_case : goal.returns-then-eq_ignore_ascii_case
 returns-then-eq_ignore_ascii_case c = found_named c.requires.indexed (omega arith) c.utf8.name c.requires.token
@@ -18,7 +18,7 @@ loop-place-preserved c = none_between c.requires.indexed (omega arith) c.utf8.na
     c.fingerprint-fingerprint.ensures {item = c.index.result.now} c.loop-place-test.true c.index.ensures
     c.deref.ensures c.loop-place.invariant
     (λ same. false≢true (sym c.if-eq_ignore_ascii_case.false ∙ c.eq_ignore_ascii_case.ensures.test.1 same)))
-    c.next_alike-place-in-loop-place.ensures
+    c.next_alike-place-in-loop-place.ensures.skips
 
 pub returns : goal.returns
 returns c = none_named c.requires.indexed (omega arith) c.utf8.name c.requires.token
