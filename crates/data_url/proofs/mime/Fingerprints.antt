@@ -35,7 +35,8 @@ module _ {bytes : List ℕ} {b from at end marks : ℕ} (h : SkipsTo bytes b fro
       → SkipsTo bytes b from to end
   further to l none = record {
     on = omega (arith, h.on);
-    none = λ k g t m. ⊎_elim (λ (a : k < at). h.none k g a m) (λ (a : at ≤ k). eqb-false _ _ (none k a t)) (cases_lt k at);
+    none = λ k g t m. ⊎_elim (λ (a : k < at). h.none k g a m) (λ (a : at ≤ k). eqb-false _ _ (none k a t))
+        (cases_lt k at);
   }
 
   -- if no byte of the row is b, the search goes on after the row

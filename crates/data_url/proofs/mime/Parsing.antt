@@ -213,13 +213,12 @@ pair_by : (s name : List ℕ) {r : Reading} (value : Option (List ℕ)) → r �
 pair_by s name value e n v = grind arith
 
 -- the pair and the rest that are read from a text that is cut after a name
-pub parameter_by : (s : List ℕ) {t bytes front after : List ℕ} {n : ℕ} {o : Option (List ℕ)} → IsUtf8 t → n
-    ≡ prefix_len in_name bytes → bytes ≡ t → front ≡ take n t → after ≡ drop n t → chars t ≡ named s
-    → after_mark 61 (chars after) ≡ o → (value : Option (List ℕ)) → value
-    ≡ quotable_value (reading (chars after) o).value → (pair_if (map to_ascii_lowercase (chars front)) value
-    ≡ valid_of (item_in s)) × ((reading (chars after) o).rest ≡ (reading_in s).rest)
-parameter_by s {front = front} {after = after} {o = o} u e f g h k m value v =
-    let cut = cut_by names_steady u e f g h in
+pub parameter_by : (s t front after : List ℕ) {o : Option (List ℕ)} → chars front ≡ front_of in_name (chars t)
+    → chars after ≡ without_start in_name (chars t) → chars t ≡ named s → after_mark 61 (chars after) ≡ o
+    → (value : Option (List ℕ)) → value ≡ quotable_value (reading (chars after) o).value
+    → (pair_if (map to_ascii_lowercase (chars front)) value ≡ valid_of (item_in s))
+    × ((reading (chars after) o).rest ≡ (reading_in s).rest)
+parameter_by s t front after {o = o} g h k m value v =
     let by : reading (chars after) o ≡ reading_in s = cc in
     (pair_by s (chars front) value by (cc) v, ap (λ (r : Reading). r.rest) by)
 

@@ -1,18 +1,20 @@
 -- Texts of token code points, and quoted strings. For `tokens.rt`, `values.rt` and `split_quote`.
-use Rattle.std.proofs.Common.{append_assoc, append-nil, eqb-true, inl, inr, suc, get_or, encode_utf8_all}
-use Rattle.std.{proofs.Common.{drop-drop}, proofs.lemmas.Bool.{and_parts, and_from, cases_lt, eqb-false}}
+use Rattle.std.proofs.Common.{append_assoc, append-nil, eqb-true, inl, inr, zero, suc, get_or, encode_utf8_all}
+use Rattle.std.{proofs.Common.{drop-drop, ◌||◌, ◌⊎◌, ◌≢◌}, proofs.lemmas.List.{take_rest}}
+use Rattle.std.proofs.lemmas.Bool.{agree_below_at, and_parts, and_from, cases_lt, eqb-false}
 use Rattle.std.proofs.Common.{refl, sym, ap, subst, Bool, ◌∙◌, arith, take, drop, length-take-le, ◌+◌, cond, ◌++◌}
 use Rattle.std.proofs.Common.{take-append-drop, drop-cons, add-one, drop_of_length-le, Some, nat_le, length-append}
 use Rattle.std.proofs.Common.{◌-◌, ◌≡◌, ℕ, ◌<◌, ◌≤◌, ◌==◌, ◌&&◌, nat_lt, codes, true, false, not, List, [], ◌∷◌, length}
 use Rattle.std.{proofs.Math.Seq.{take-append_seam, take-length, drop-append-add}, specs.Str.{IsAscii, IsUtf8, chars}}
-use Rattle.std.{proofs.lemmas.List.Sums.{prefix_len-le-length}, specs.List.{list_all, list_any, prefix_len, suffix_len}}
+use Rattle.std.proofs.lemmas.List.Sums.{prefix_len-le-length, prefix_len_passes}
+use Rattle.std.specs.List.{list_all, list_any, prefix_len, suffix_len}
 use Rattle.std.proofs.lemmas.Str.{chars-IsAscii, encodes-IsAscii, encodes-chars, chars-nil, chars_past_char}
 use Rattle.std.proofs.lemmas.Str.{encode_ascii, IsUtf8-drop, IsCharBoundary-before_ascii, IsCharBoundary-after_ascii}
 use Rattle.data_url.specs.{CodePoints.{is_http_whitespace, is_token}, Url.{without_start}}
 use Rattle.data_url.specs.Mime.{Every, is_token_text, Quoted, QuotedOpen, after_backslash, nothing_quoted, as_itself}
-use Rattle.data_url.specs.Steps.Parsing.{IsTokens, in_name, in_value, quoted_len, quoted_reading, unescaped}
+use Rattle.data_url.specs.Steps.Parsing.{IsTokens, front_of, in_name, in_value, quoted_len, quoted_reading, unescaped}
 use Rattle.data_url.proofs.texts.CodePoints.{IsCutInto, IsEnd, IsSteady, cut_end, cut_front, every_ascii, front_passes}
-use Rattle.data_url.proofs.texts.CodePoints.{cut_into}
+use Rattle.data_url.proofs.texts.CodePoints.{cut_into, front_further}
 use lib.Utf8.{encode}
 
 -- a code point that is not ASCII is none of some ASCII marks
@@ -113,6 +115,56 @@ module _ (bs : List ℕ) (n : ℕ) (u : IsUtf8 bs) (e : n ≡ prefix_len is_toke
 
 -- the lemmas for `tokens.rt`
 pub ruleset tokens = (tokens_steady, cut_front, chars-nil, token_text_by, some_tokens)
+
+-- a token code point does not end a name
+token_in_name : (c : ℕ) → is_token c ≡ true → in_name c ≡ true
+unfolding is_token
+token_in_name c h =
+    let same = agree_below_at (λ b. not (is_token b) || in_name b) (λ b. true) 128 c refl (token_below c h) in
+    grind arith
+
+-- the first n items of a text pass exactly if its longest prefix that passes has n or more
+front_all : (p : ℕ → Bool) (n : ℕ) (s : List ℕ) → n ≤ length s → list_all p (take n s) ≡ nat_le n (prefix_len p s)
+front_all p zero s l = grind arith
+front_all p (suc n) [] l = absurd (omega arith)
+front_all p (suc n) (c ∷ s) l = grind (arith, front_all p n s)
+
+module _ {text bytes : List ℕ} {tokens more : ℕ} (u : IsUtf8 text) (e : bytes ≡ text)
+    (f : tokens ≡ prefix_len is_token bytes) (g : more ≡ prefix_len in_name (take (length bytes - tokens)
+    (drop tokens bytes))) where
+  -- the name is its longest prefix of token code points, and what follows up to the first ';' or '='
+  name_length : tokens + more ≡ prefix_len in_name text
+  name_length =
+      let passes : (k : ℕ) → k < tokens → in_name (get_or bytes k 0) ≡ true =
+      λ k l. token_in_name _ (prefix_len_passes is_token bytes k 0 (omega arith)) in
+      grind (arith, take_rest, front_further, prefix_len-le-length)
+
+  -- a UTF-8 text can be cut after the name
+  pub cut_name : IsCutInto text (tokens + more) (front_of in_name (chars text)) (without_start in_name (chars text))
+  cut_name = rw name_length (cut_front in_name names_steady text u)
+
+  -- the name is a token text exactly if that prefix is not empty and is all of the name
+  name_token : (name : List ℕ) → IsUtf8 name → name ≡ take (tokens + more) text
+      → is_token_text (chars name) ≡ (not (tokens == 0) && (tokens == length name))
+  name_token name w h =
+      let within : tokens + more ≤ length text = omega (arith, name_length, prefix_len-le-length in_name text) in
+      let long : length name ≡ tokens + more = ap length h ∙ length-take-le (tokens + more) text within in
+      let all : list_all is_token name ≡ nat_le (tokens + more) (prefix_len is_token text) =
+      ap (list_all is_token) h ∙ front_all is_token (tokens + more) text within in
+      let all' = whole_front is_token name in
+      let token = token_text_is name in
+      let chars' = token_text_chars name w in
+      grind arith
+
+  -- so a flag says whether it is, if it is false without a prefix, and otherwise whether the prefix is all of the name
+  pub name_token_by : (name : List ℕ) (flag : Bool) → IsUtf8 name → name ≡ take (tokens + more) text
+      → ((tokens ≢ 0) × (flag ≡ (tokens == length name))) ⊎ ((tokens ≡ 0) × (flag ≡ not (tokens == 0)))
+      → flag ≡ is_token_text (chars name)
+  name_token_by name flag w h (inl (n, b)) = let t = name_token name w h in grind arith
+  name_token_by name flag w h (inr (n, b)) = let t = name_token name w h in grind arith
+
+-- the lemmas for `split_name`
+pub ruleset names = (cut_name)
 
 -- the length and the value of a quoted text and then x are those of the quoted text, and then those of x
 quoted_before : (q v x : List ℕ) → Quoted q v → (quoted_len false (q ++ x) ≡ length q + quoted_len false x)

@@ -10,11 +10,11 @@ ghost use Rattle.data_url.specs.MimeType.{pair_of, record_of};
 
 use super::Mime;
 use super::cuts::{
-    after_mark, from_semicolon, name_len, parameter_len, without_leading_whitespace,
+    after_mark, from_semicolon, parameter_len, without_leading_whitespace,
     without_trailing_whitespace,
 };
 use super::kept::{FINGERPRINTS_LEN, KeptParameters};
-use super::tokens::{is_token_text, split_tokens};
+use super::tokens::{split_name, split_tokens};
 use super::values::{Value, lowercased};
 use crate::classes::{Class, long_span};
 use std::alloc::{AllocError, Global};
@@ -32,6 +32,8 @@ pub(crate) struct Head<'a> {
 #[derive(Clone, Copy)]
 struct Parameter<'a> {
     name: &'a str,
+    /// Whether the name is not empty and has only token code points.
+    is_token: bool,
     value: Value<'a>,
     rest: &'a str,
 }
@@ -92,17 +94,27 @@ pub(crate) fn plain_head(parameters: &str) -> Head<'_>
 
 /// Returns the parameter that a text begins with, after its `;`.
 fn read_parameter(text: &str) -> Parameter<'_>
+    ensures token { result.is_token ≡ is_token_text (chars result.name.now) }
     ensures pair { pair_in result ≡ valid_of (item_in (chars text.now)) }
     ensures rest { chars result.rest.now ≡ (reading_in (chars text.now)).rest }
 {
-    let text = without_leading_whitespace(text);
-    let (name, rest) = text.split_at(name_len(text.as_bytes()));
+    let (name, is_token, rest) = split_name(without_leading_whitespace(text));
     let Some(given) = after_mark(rest, '=') else {
         let value = Value::Missing;
-        return Parameter { name, value, rest };
+        return Parameter {
+            name,
+            is_token,
+            value,
+            rest,
+        };
     };
     let (value, rest) = read_value(given);
-    Parameter { name, value, rest }
+    Parameter {
+        name,
+        is_token,
+        value,
+        rest,
+    }
 }
 
 /// Returns the value after a `=`, and the text after it.
@@ -192,13 +204,14 @@ fn keep(
     kept: &mut KeptParameters,
     parameter: &Parameter<'_>,
 ) -> Result<(), AllocError>
-    requires { IsIndexed kept.old }
+    requires indexed { IsIndexed kept.old }
+    requires token { parameter.now.is_token ≡ is_token_text (chars parameter.now.name.now) }
     ensures pairs { OnOk result (pairs_of kept.new
         ≡ pairs_of kept.old ++ unless_named (pairs_of kept.old) (pair_in parameter.now)) }
     ensures indexed { OnOk result (IsIndexed kept.new) }
 {
     let name = parameter.name;
-    if !is_token_text(name) || kept.is_among_first(name) {
+    if !parameter.is_token || kept.is_among_first(name) {
         return Ok(());
     }
     let Some(value) = parameter.value.text(alloc)? else {
