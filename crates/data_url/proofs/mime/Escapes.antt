@@ -1,11 +1,14 @@
--- Values of quoted strings. For `values.rt`.
+-- Quoted strings: where they end, and their values. For `split_quote` and `values.rt`.
 use Rattle.std.proofs.Common.{◌≡◌, ℕ, ◌+◌, ◌-◌, ◌<◌, ◌≤◌, ◌==◌, Bool, true, false, not, cond, Some, None, List, [], ◌∷◌}
 use Rattle.std.proofs.Common.{◌++◌, length, take, drop, refl, sym, ap, ◌∙◌, append_assoc, append-nil, arith, eqb-true}
 use Rattle.std.proofs.Common.{length-append, length-drop, encode_utf8_all, take-append-drop, one-add, take_all}
-use Rattle.std.proofs.{Common.{drop_of_length-le}, lemmas.List.Sums.{prefix_len-le-length}}
+use Rattle.std.proofs.Common.{slice_index, min, suc, ◌≢◌, drop-cons, drop-drop}
+use Rattle.std.proofs.{Common.{drop_of_length-le}, lemmas.List.Sums.{prefix_len-le-length, prefix_len_stops}}
+use Rattle.std.proofs.{lemmas.Bool.{not-false}, lemmas.List.{get_or-drop}}
 use Rattle.std.proofs.lemmas.Str.{chars-append, chars-nil, encodes-chars}
 use Rattle.std.{specs.List.{prefix_len}, specs.Str.{IsCharBoundary, IsUtf8, chars}}
-use Rattle.data_url.specs.{Steps.Parsing.{IsLiteral, after_mark, front_of, is_escaped, unescaped}, Url.{without_start}}
+use Rattle.data_url.specs.{Steps.Parsing.{IsLiteral, Quoting, after_mark, front_of, is_escaped, quoted_len}}
+use Rattle.data_url.specs.{Steps.Parsing.{unescaped}, Url.{without_start}}
 use Rattle.data_url.proofs.mime.Parsing.{mark_is, unescaped_steady}
 use Rattle.data_url.proofs.texts.CodePoints.{IsCutInto, cut_front, cut_into, front_encodes, no_chars}
 use lib.Utf8.{encode}
@@ -120,8 +123,8 @@ unescapes {whole} {bytes} {n} v u e f z =
       value = rw (z, chars-nil) (sym h.value);
     }
 
--- and so they are after the n bytes are moved to v, if what follows them has the value of s after a '\', and m bytes of s
--- stand for themselves
+-- and so they are after the n bytes are moved to v, if what follows them has the value of s after a '\', and m bytes of
+-- s stand for themselves
 pub unescapes_on : {whole v rest s : List ℕ} {n m : ℕ} (w : List ℕ) → Unescaping whole (chars v) rest n → IsUtf8 v
     → w ≡ v ++ take n rest → unescaped true (chars s) ≡ unescaped false (chars (drop n rest))
     → IsLiteral true s m → Unescaping whole (chars w) s m
@@ -141,3 +144,66 @@ unescapes_all {whole} {v} {rest} {n} w h a l e =
     let all : take n rest ≡ rest = take_all n rest l in
     let none : drop n rest ≡ [] = drop_of_length-le rest {i = n} l in
     cc (chars-append v rest a, chars-nil, append-nil (chars rest))
+
+-- a code point other than '"' and '\' comes before the closing quote
+first_quoted : (c : ℕ) (s : List ℕ) → plain c ≡ true → quoted_len false (c ∷ s) ≡ suc (quoted_len false s)
+first_quoted c s h = grind arith
+
+-- so do those before the first '"' or '\'
+plain_quoted : (s : List ℕ) → prefix_len plain s + quoted_len false (drop (prefix_len plain s) s) ≡ quoted_len false s
+plain_quoted [] = refl
+plain_quoted (c ∷ s) = elim (plain c) as (λ v. plain c ≡ v → cond v (1 + prefix_len plain s) 0
+    + quoted_len false (drop (cond v (1 + prefix_len plain s) 0) (c ∷ s)) ≡ quoted_len false (c ∷ s)) [
+      | true ↦ λ e. rw one-add (omega (arith, first_quoted c s e, plain_quoted s))
+      | false ↦ λ e. omega arith
+    ] refl
+
+-- a code point that a '\' escapes comes before the closing quote, if there is one
+pair_quoted : (s : List ℕ) (n : ℕ) → n ≡ min 1 (length s) → quoted_len true s ≡ n + quoted_len false (drop n s)
+pair_quoted [] n e = rw e refl
+pair_quoted (c ∷ s) n e = let one : n ≡ 1 = omega arith in rw one (omega arith)
+
+-- if the closing quote is not before a place, it is not before the first '"' or '\' from there on
+quoting_from : (bytes : List ℕ) (from m place : ℕ) → from ≤ length bytes
+    → from + quoted_len false (drop from bytes) ≡ quoted_len false bytes → m ≡ prefix_len plain (drop from bytes)
+    → place ≡ from + m → Quoting bytes place
+quoting_from bytes from m place l h f e =
+    let rest = drop from bytes in
+    let few = prefix_len-le-length plain rest in
+    let long = length-drop from bytes in
+    let stops : m < length rest → plain (slice_index rest m) ≡ false =
+    λ k. rw f (prefix_len_stops plain rest 0 (omega arith)) in
+    let at : slice_index rest m ≡ slice_index bytes place =
+    get_or-drop from bytes m 0 ∙ ap (slice_index bytes) (sym e) in
+    let joined : m + quoted_len false (drop m rest) ≡ quoted_len false rest = rw f (plain_quoted rest) in
+    let on : drop m rest ≡ drop place bytes = drop-drop m from bytes ∙ ap (λ k. drop k bytes) (omega arith) in
+    record {
+      within = omega arith;
+      mark = λ k. not-false _ (ap plain (sym at) ∙ stops (omega arith));
+      joined = omega (arith, ap (quoted_len false) on);
+    }
+
+-- at the start
+pub quoting_first : (bytes : List ℕ) (n : ℕ) → n ≡ prefix_len plain bytes → Quoting bytes n
+quoting_first bytes n f = quoting_from bytes 0 n n (omega arith) (omega arith) f (omega arith)
+
+-- after a '\' and the byte that follows it
+pub quoting_next : (bytes : List ℕ) (place from m : ℕ) → Quoting bytes place → place < length bytes
+    → slice_index bytes place ≢ 34 → from ≡ min (length bytes) (place + 2)
+    → m ≡ prefix_len plain (take (length bytes - from) (drop from bytes)) → Quoting bytes (from + m)
+quoting_next bytes place from m h l n e f =
+    let all : take (length bytes - from) (drop from bytes) ≡ drop from bytes =
+    take_all (length bytes - from) (drop from bytes) (omega (arith, length-drop from bytes)) in
+    let more = drop (suc place) bytes in
+    let k = min 1 (length more) in
+    let is : slice_index bytes place ≡ 92 = let mark = h.mark l in grind (arith, eqb-true) in
+    let front : drop place bytes ≡ 92 ∷ more = drop-cons bytes place 0 l ∙ ap (λ b. b ∷ more) is in
+    let at : from ≡ suc place + k = omega (arith, length-drop (suc place) bytes) in
+    let on : drop k more ≡ drop from bytes = drop-drop k (suc place) bytes ∙ ap (λ i. drop i bytes) (omega arith) in
+    quoting_from bytes from m (from + m) (omega arith) (omega (
+      arith,
+      h.joined,
+      ap (quoted_len false) front,
+      pair_quoted more k refl,
+      ap (quoted_len false) on,
+    )) (f ∙ ap (prefix_len plain) all) refl

@@ -276,10 +276,11 @@ module _ {bs : List ℕ} {i : ℕ} (u : IsUtf8 bs) (l : i < length bs) (g : get_
       cc (first, quote_at, cut.after, drop-drop 1 n (chars bs), add-one i, add-one n)
 
 -- if the search reaches the end of a text, there is no closing quote
-pub no_quote : {bs bytes : List ℕ} {i : ℕ} (e : Bool) → IsUtf8 bs → bytes ≡ bs → length bytes ≤ i
-    → i + quoted_len e (drop i bs) ≡ quoted_len false bs → (chars bs ≡ take (quoted_len false (chars bs)) (chars bs))
+pub no_quote : {bs bytes : List ℕ} {i : ℕ} → IsUtf8 bs → bytes ≡ bs → length bytes ≤ i
+    → i + quoted_len false (drop i bs) ≡ quoted_len false bs
+    → (chars bs ≡ take (quoted_len false (chars bs)) (chars bs))
     × (chars [] ≡ drop (suc (quoted_len false (chars bs))) (chars bs))
-no_quote {bs} {bytes} {i} e u b l h =
+no_quote {bs} {bytes} {i} u b l h =
     let none : drop i bs ≡ [] = drop_of_length-le bs {i = i} (omega (arith, ap length b)) in
     let at : quoted_len false bs ≡ i = grind arith in
     let cut = cut_quote bs u in

@@ -2,8 +2,8 @@
 use Rattle.std.specs.Char.{to_ascii_lowercase}
 use Rattle.std.specs.Int.{is_in_range}
 use Rattle.std.specs.List.{list_all, prefix_len}
-use Rattle.std.specs.Prelude.{[], if◌then◌else◌, ◌&&◌, ◌++◌, ◌==◌, ◌||◌, ◌∷◌, ◌≡◌, ◌≤◌, Bool, IsTrue}
-use Rattle.std.specs.Prelude.{List, None, Option, Some, drop, false, length, map, not, suc, take, true}
+use Rattle.std.specs.Prelude.{[], if◌then◌else◌, ◌&&◌, ◌++◌, ◌==◌, ◌||◌, ◌∷◌, ◌≡◌, ◌≤◌, ◌<◌, ◌+◌, Bool, IsTrue}
+use Rattle.std.specs.Prelude.{List, None, Option, Some, drop, false, length, map, not, slice_index, suc, take, true}
 use Rattle.std.specs.Prelude.{zero, ℕ}
 use Rattle.std.specs.Str.{IsCharBoundary, chars}
 use Rattle.data_url.specs.CodePoints.{ends_name, is_http_whitespace, is_quotable, is_semicolon, is_token}
@@ -49,11 +49,22 @@ in_value c = not (is_semicolon c)
 abbrev pub in_name : ℕ → Bool
 in_name c = not (ends_name c)
 
+-- '"' or '\', before which a '\' is written
+abbrev pub is_escaped : ℕ → Bool
+is_escaped c = (c == 34) || (c == 92)
+
 -- how many code points come before the closing quote, or in all; the flag says whether a '\' escapes the first one
 abbrev pub quoted_len : Bool → List ℕ → ℕ
 quoted_len escaped [] = zero
 quoted_len true (c ∷ s) = suc (quoted_len false s)
 quoted_len false (c ∷ s) = if c == 34 then zero else suc (quoted_len (c == 92) s)
+
+-- the byte at a place, if there is one, is '"' or '\', and the closing quote is not before it; no '\' before the place
+-- escapes this byte
+pub record Quoting (bytes : List ℕ) (place : ℕ) : Type 0 where
+  pub within : place ≤ length bytes
+  pub mark : place < length bytes → is_escaped (slice_index bytes place) ≡ true
+  pub joined : place + quoted_len false (drop place bytes) ≡ quoted_len false bytes
 
 -- the text without each '\' that escapes the next code point; the flag says whether a '\' comes before the text
 abbrev pub unescaped : Bool → List ℕ → List ℕ
@@ -155,7 +166,3 @@ HasLowercaseNames pairs = IsTrue (list_all (λ (p : Pair). is_lowercase_name p.0
 -- the text does not begin with a type and a subtype
 abbrev pub HasNoHead : List ℕ → Type 0
 HasNoHead s = (type_ subtype parameters : List ℕ) → IsHead s type_ subtype parameters → ⊥
-
--- '"' or '\', before which a '\' is written
-abbrev pub is_escaped : ℕ → Bool
-is_escaped c = (c == 34) || (c == 92)

@@ -1,10 +1,10 @@
 //! Reads a MIME type (MIME Sniffing Standard, section 4.4).
 
-ghost use Rattle.std.specs.Prelude.{◌≡◌, ◌++◌, List, MatchOption, IfOk, IsTrue, OnOk, codes, drop, false, map, suc, take};
+ghost use Rattle.std.specs.Prelude.{◌≡◌, ◌≢◌, ◌<◌, ◌++◌, List, MatchOption, IfOk, IsTrue, OnOk, codes, drop, false, length, map, slice_index, suc, take};
 ghost use Rattle.std.specs.Str.{chars};
 ghost use Rattle.data_url.specs.Mime.{BeginsParameters, IsHead, Item, Items, is_token_text, kept_pairs, valid_of, IsRecordOfParts};
 ghost use Rattle.data_url.specs.Url.{without_start};
-ghost use Rattle.data_url.specs.Steps.Parsing.{HasNoHead, given_reading, in_value, item_in, pair_in, plain_reading, quotable_value, quoted_len, reading_in, unless_named, value_of};
+ghost use Rattle.data_url.specs.Steps.Parsing.{HasNoHead, Quoting, given_reading, in_value, item_in, pair_in, plain_reading, quotable_value, quoted_len, reading_in, unless_named, value_of};
 ghost use Rattle.data_url.specs.Steps.Kept.{IsIndexed, pairs_of};
 ghost use Rattle.data_url.specs.MimeType.{pair_of, record_of};
 
@@ -153,14 +153,29 @@ fn split_quote(text: &str) -> (&str, &str)
     ensures after { chars result.1.now
         ≡ drop (suc (quoted_len false (chars text.now))) (chars text.now) }
 {
-    let mut escaped = false;
-    for (place, byte) in text.as_bytes().iter().enumerate() {
-        if *byte == b'"' && !escaped {
+    let bytes = text.as_bytes();
+    let mut place = long_span(Class::Unescaped, bytes);
+    while place < bytes.len() {
+        if bytes[place] == b'"' {
             return (&text[..place], &text[place + 1..]);
         }
-        escaped = *byte == b'\\' && !escaped;
+        place = next_quoting(bytes, place);
     }
     (text, "")
+}
+
+/// Returns the place of the first `"` or `\` that comes after the `\` at a place and the byte that this one escapes.
+/// Returns the length if there is none.
+#[inline(always)]
+fn next_quoting(bytes: &[u8], place: usize) -> usize
+    requires quoting { Quoting bytes.now place }
+    requires within { place < length bytes.now }
+    requires other { slice_index bytes.now place ≢ 34 }
+    ensures on { place < result }
+    ensures quoting { Quoting bytes.now result }
+{
+    let from = bytes.len().min(place + 2);
+    from + long_span(Class::Unescaped, &bytes[from..])
 }
 
 /// The length of the shortest valid parameter, such as `;a=b`, in bytes; about half of what most take.
