@@ -1,27 +1,36 @@
 -- Fingerprints of names, and a search for one among them. For `kept.rt`.
-use Rattle.std.proofs.Common.{◌≡◌, ◌≢◌, ℕ, zero, suc, ◌+◌, ◌-◌, ◌*◌, ◌%◌, ◌<◌, ◌≤◌, ◌==◌, Bool, not, false}
+use Rattle.std.proofs.Common.{◌≡◌, ◌≢◌, ℕ, zero, suc, ◌+◌, ◌-◌, ◌*◌, ◌%◌, ◌<◌, ◌≤◌, ◌==◌, Bool, bit_or, not, false, true}
 use Rattle.std.proofs.Common.{List, [], ◌∷◌, ◌++◌, length, map, take, drop, set, slice_index, refl, sym, ap, ◌∙◌, arith}
 use Rattle.std.proofs.Common.{⊎_elim, length-append, length-drop, length-take-le, take_all}
-use Rattle.std.{proofs.lemmas.Bool.{cases_lt, eqb-false, eqb-true}, specs.List.{prefix_len}}
+use Rattle.std.{proofs.lemmas.Bool.{agree_below_at, cases_lt, eqb-false, eqb-true}, specs.List.{prefix_len}}
 use Rattle.std.proofs.lemmas.List.{length-map, map-append, take-append-le, take_more_set}
 use Rattle.std.proofs.lemmas.Simd.{none_from_empty_mask, run_in_chunk_fails, run_in_chunk_stops, trailing_mask_l}
 use Rattle.std.{specs.Char.{to_ascii_lowercase}, specs.Int.Count.{count_trailing_zeros}, specs.Simd.Lanes.{mask_l}}
-use Rattle.data_url.specs.{Mime.{Pair}, Steps.Kept.{AreFingerprints, SkipsTo, fingerprint_of, first_of}}
-use Rattle.data_url.specs.declared.mime.kept.TheConstants.{FINGERPRINTS_LEN, LOOKED_THROUGH}
+use Rattle.data_url.specs.{Mime.{Pair}, Steps.Kept.{AreFingerprints, SkipsTo, fingerprint_of, first_of, letter_at}}
+use Rattle.data_url.specs.declared.mime.kept.TheConstants.{CASE, FINGERPRINTS_LEN, LOOKED_THROUGH}
 
--- the byte at a place of a text in lower case, if any
-lower_at : (t : List ℕ) (k : ℕ) → slice_index (map to_ascii_lowercase t) k ≡ to_ascii_lowercase (slice_index t k)
-lower_at [] k = refl
-lower_at (c ∷ t) zero = refl
-lower_at (c ∷ t) (suc k) = lower_at t k
+-- the case bit of a byte can be set before or after it is put into lower case
+case_lower : (b : ℕ) → b < 256 → bit_or (to_ascii_lowercase b) CASE ≡ bit_or b CASE
+case_lower b l = eqb-true _ _
+    (agree_below_at (λ b. bit_or (to_ascii_lowercase b) CASE == bit_or b CASE) (λ b. true) 256 b refl l)
 
--- what is computed from the last three bytes of a name, in lower case, is the fingerprint of the name in lower case
-pub fingerprint_is : (t : List ℕ) (last a b c : ℕ) → last ≡ length t - 1 → a ≡ to_ascii_lowercase (slice_index t last)
-    → b ≡ to_ascii_lowercase (slice_index t (last - 1)) → c ≡ to_ascii_lowercase (slice_index t (last - 2))
+-- so the letter at a place is the same in a text in lower case
+letter_lower : (t : List ℕ) (k : ℕ) → slice_index t k < 256 → letter_at (map to_ascii_lowercase t) k ≡ letter_at t k
+letter_lower [] k l = refl
+letter_lower (c ∷ t) zero l = case_lower c l
+letter_lower (c ∷ t) (suc k) l = letter_lower t k l
+
+-- what is computed from the last three bytes of a name is the fingerprint of the name in lower case
+pub fingerprint_is : (t : List ℕ) (last a b c : ℕ) → ((k : ℕ) → slice_index t k < 256) → last ≡ length t - 1
+    → a ≡ letter_at t last → b ≡ letter_at t (last - 1) → c ≡ letter_at t (last - 2)
     → (a + 10 * b + 100 * c) % 256 ≡ fingerprint_of (map to_ascii_lowercase t)
 unfolding fingerprint_of
-fingerprint_is t last a b c l e f g =
-    cc (length-map t to_ascii_lowercase, lower_at t last, lower_at t (last - 1), lower_at t (last - 2))
+fingerprint_is t last a b c fits l e f g = cc (
+  length-map t to_ascii_lowercase,
+  letter_lower t last (fits last),
+  letter_lower t (last - 1) (fits (last - 1)),
+  letter_lower t (last - 2) (fits (last - 2)),
+)
 
 -- if the mask of the items that pass is not 0, one of them passes
 some_passes : (p : ℕ → Bool) (xs : List ℕ) → mask_l (map p xs) ≢ 0 → prefix_len (λ x. not (p x)) xs < length xs

@@ -1,12 +1,12 @@
 -- What the private contracts of the MIME parser see of the parameters that it has kept so far.
 use Rattle.std.specs.BTreeSet.{BTreeSet, contains_text}
-use Rattle.std.specs.Prelude.{◌%◌, ◌*◌, ◌+◌, ◌-◌, ◌<◌, ◌≡◌, ◌≢◌, ◌≤◌, List, String, drop, length, map}
-use Rattle.std.specs.Prelude.{slice_index, take, ℕ}
+use Rattle.std.specs.Prelude.{◌%◌, ◌*◌, ◌+◌, ◌-◌, ◌<◌, ◌≡◌, ◌≢◌, ◌≤◌, List, String, bit_or, drop, length}
+use Rattle.std.specs.Prelude.{map, slice_index, take, ℕ}
 use Rattle.data_url.specs.Mime.{Pair, has_name}
 use Rattle.data_url.specs.MimeType.{pair_of}
 use Rattle.data_url.specs.Steps.Parsing.{HasLowercaseNames}
 use Rattle.data_url.specs.declared.mime.kept.KeptParameters.{KeptParameters}
-use Rattle.data_url.specs.declared.mime.kept.TheConstants.{FINGERPRINTS_LEN, LOOKED_THROUGH}
+use Rattle.data_url.specs.declared.mime.kept.TheConstants.{CASE, FINGERPRINTS_LEN, LOOKED_THROUGH}
 
 -- the pairs as lists of code points
 abbrev pub pairs_of : KeptParameters → List Pair
@@ -21,11 +21,15 @@ abbrev pub HasLaterNames : {A : Type 0} → BTreeSet (String A) → List Pair �
 HasLaterNames later pairs = (name : List ℕ)
     → contains_text later name ≡ has_name name (drop LOOKED_THROUGH pairs)
 
+-- the byte at a place of a name, if any, as it is in lower case if it is a letter
+abbrev pub letter_at : List ℕ → ℕ → ℕ
+letter_at name place = bit_or (slice_index name place) CASE
+
 -- the fingerprint of a name, from its last three bytes
 unfoldable pub fingerprint_of : List ℕ → ℕ
 fingerprint_of name =
     let last = length name - 1 in
-    (slice_index name last + 10 * slice_index name (last - 1) + 100 * slice_index name (last - 2)) % 256
+    (letter_at name last + 10 * letter_at name (last - 1) + 100 * letter_at name (last - 2)) % 256
 
 -- the bytes are the fingerprints of the names of the pairs, in order
 abbrev pub AreFingerprints : List ℕ → List Pair → Type 0

@@ -20,6 +20,9 @@ const LOOKED_THROUGH: usize = 128;
 /// The size of the array of fingerprints, so that a row can be read from the place of each.
 pub(super) const FINGERPRINTS_LEN: usize = 144;
 
+/// The bit in which the two cases of an ASCII letter differ.
+const CASE: u8 = 32;
+
 /// The pairs that are kept. Of the first ones there is a fingerprint each, so that a search compares the names of few.
 /// The names of the later ones are also in a set.
 #[derive(Drop)]
@@ -80,10 +83,10 @@ fn fingerprint(name: &str) -> u8
 {
     let bytes = name.as_bytes();
     let last = bytes.len() - 1;
-    let ones = bytes[last].to_ascii_lowercase();
-    let tens = bytes[last.saturating_sub(1)].to_ascii_lowercase();
-    let hundreds = bytes[last.saturating_sub(2)].to_ascii_lowercase();
-    let sum = u32::from(ones) + 10 * u32::from(tens) + 100 * u32::from(hundreds);
+    let ones = u32::from(bytes[last] | CASE);
+    let tens = u32::from(bytes[last.saturating_sub(1)] | CASE);
+    let hundreds = u32::from(bytes[last.saturating_sub(2)] | CASE);
+    let sum = ones + 10 * tens + 100 * hundreds;
     (sum % 256) as u8
 }
 
