@@ -1,7 +1,7 @@
 -- Fingerprints of names, and a search for one among them. For `kept.rt`.
-use Rattle.std.proofs.Common.{◌≡◌, ◌≢◌, ℕ, zero, suc, ◌+◌, ◌-◌, ◌*◌, ◌%◌, ◌<◌, ◌≤◌, ◌==◌, Bool, bit_or, not, false, true}
+use Rattle.std.proofs.Common.{◌≡◌, ◌≢◌, ℕ, zero, suc, ◌+◌, ◌-◌, ◌*◌, ◌%◌, ◌<◌, ◌≤◌, ◌==◌, Bool, bit_or, not}
 use Rattle.std.proofs.Common.{List, [], ◌∷◌, ◌++◌, length, map, take, drop, set, slice_index, refl, sym, ap, ◌∙◌, arith}
-use Rattle.std.proofs.Common.{⊎_elim, length-append, length-drop, length-take-le, take_all}
+use Rattle.std.proofs.Common.{⊎_elim, length-append, length-drop, length-take-le, take_all, false, true}
 use Rattle.std.{proofs.lemmas.Bool.{agree_below_at, cases_lt, eqb-false, eqb-true}, specs.List.{prefix_len}}
 use Rattle.std.proofs.lemmas.List.{length-map, map-append, take-append-le, take_more_set}
 use Rattle.std.proofs.lemmas.Simd.{none_from_empty_mask, run_in_chunk_fails, run_in_chunk_stops, trailing_mask_l}
