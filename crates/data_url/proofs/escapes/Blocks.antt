@@ -1,9 +1,13 @@
 -- What the lanes of a block compute: the codes of digits, and the escapes that begin in the block. For `lanes.rt`.
 use Rattle.std.proofs.Common.{List, [], ◌∷◌, ◌++◌, map, ◌≡◌, ℕ, ◌<◌, ◌≤◌, ltb, true, false, cond, eqb, get_or, suc, zero}
-use Rattle.std.proofs.Common.{length, take, drop, w8, ap, ◌+◌, ◌*◌, ◌-◌, ◌%◌, ◌^◌, Bool, refl, sym, ◌∙◌, arith, bit_or, ap₂, ◌⊎◌, inl, inr, ◌&&◌, length-append, lit≤, lit<, subst, take-append-drop, ◌/◌, ◌==◌, ◌||◌, take-take, length-take-le, take_all, slice_range}
-use Rattle.std.proofs.Common.{Fits, map-id, replicate}
+use Rattle.std.proofs.Common.{length, take, drop, w8, ap, ◌+◌, ◌*◌, ◌-◌, ◌%◌, ◌^◌, Bool, refl, sym, ◌∙◌, arith, bit_or, ap₂, inl, inr, ◌&&◌, length-append, lit≤, lit<, subst, take-append-drop, ◌/◌, ◌==◌, ◌||◌, take-take, length-take-le, take_all, slice_range}
+use Rattle.std.proofs.Common.{bit_and, bit_xor, leb}
+use Rattle.std.proofs.lemmas.Simd.{SwzOk, SwzOk-from_Each1, get_or-replicate, map-map, swz_l}
+use lib.Dec.{T}
+use mir.Val.{zeroes}
+use Rattle.std.proofs.Common.{Fits, replicate}
 use Rattle.std.specs.Char.{digit_value, is_ascii_hexdigit}
-use Rattle.std.proofs.lemmas.Bool.{agree_below_at, and_parts, cases_Bool, cases_lt, eqb-true, true≢false}
+use Rattle.std.proofs.lemmas.Bool.{agree_below_at, and_parts, cases_Bool, cases_lt, eqb-true, ltb-true, true≢false}
 use Rattle.std.proofs.lemmas.Simd.{splat_is_map, tops_compared, zip2_of_maps, zip2_splat}
 use Rattle.std.proofs.lemmas.Nat.{le_or_l, le_or_r, or_lt}
 use Rattle.data_url.specs.Percent.{begins_with_escape, percent_decoding}
@@ -178,11 +182,14 @@ chosen_of : {V : Type 0} (t : V → Bool) (f g : V → ℕ) (vs : List V)
 chosen_of t f g [] = refl
 chosen_of t f g (x ∷ vs) = ap (λ l. cond (t x) (f x) (g x) ∷ l) (chosen_of t f g vs)
 
--- the bits that lanes compute from the bytes and the codes after them
-abbrev pub start_lanes : List ℕ → List ℕ → List ℕ → List Bool
-start_lanes v high low =
-    map (top 7) (zip2 (λ a b. cond (ltb a b) 255 0) (sel_l (map (top 7) (zip2 (λ a b. cond (eqb a b) 255 0) v
-    (replicate 64 37))) (zip2 bit_or high low) (replicate 64 255)) (replicate 64 16))
+-- the greatest code, as lanes compute it from the bytes and the codes after them: 255 if the byte is no '%'
+abbrev pub code_lanes : List ℕ → List ℕ → List ℕ → List ℕ
+code_lanes v high low =
+    sel_l (map (top 7) (zip2 (λ a b. cond (eqb a b) 255 0) v (replicate 64 37))) (zip2 bit_or high low) (replicate 64 255)
+
+-- the bytes of the mask that a table gives for these codes
+abbrev pub mask_lanes : List ℕ → List ℕ → List ℕ → List ℕ
+mask_lanes v high low = swz_l w8 16 (replicate 64 255) 0 (code_lanes v high low)
 
 -- the codes of the bytes after each byte of a block, as two shuffles compute them
 abbrev pub codes_from : ℕ → List ℕ → List ℕ
@@ -215,48 +222,160 @@ lanes_are v codes long e = record {
   low_is = ap (codes_from 2) e ∙ shifted v 2 long (lit≤ tt) ∙ lows v (replicate 62 255);
 }
 
--- the bits of the windows
-start_bits : (v high low : List ℕ) → AreLanes v high low → start_lanes v high low ≡ map starts (windows v)
-start_bits v high low l =
+-- the code of a window, by which an escape begins there or not
+abbrev code : Window → ℕ
+code w = cond (eqb w.0 37) (bit_or w.1.0 w.1.1) 255
+
+-- it is below 16, or 128 or more
+code_by : (p h l : Bool) (u v x y : ℕ) → IsCodeOf h u x → IsCodeOf l v y
+    → (leb 128 (cond p (bit_or x y) 255) || ltb (cond p (bit_or x y) 255) 16) ≡ true
+code_by false h l u v x y f g = refl
+code_by true false l u v x y f g = grind (arith, le_or_l x y)
+code_by true true false u v x y f g = grind (arith, le_or_r x y)
+code_by true true true u v x y f g = grind (arith, or_lt 4 x y)
+
+code_first : (b : ℕ) (s : List ℕ) → Each1 (Fits w8) s
+    → (leb 128 (code (b, (first_code s, first_code (drop 1 s)))) || ltb (code (b, (first_code s, first_code (drop 1 s)))) 16) ≡ true
+code_first b [] fits = code_by (eqb b 37) false false 0 0 255 255 no_code no_code
+code_first b (c ∷ []) fits =
+    code_by (eqb b 37) (is_ascii_hexdigit c) false _ 0 _ 255 (hex_is c fits.0.fits) no_code
+code_first b (c ∷ d ∷ s) fits =
+    code_by (eqb b 37) (is_ascii_hexdigit c) (is_ascii_hexdigit d) _ _ _ _ (hex_is c fits.0.fits) (hex_is d fits.1.0.fits)
+
+-- so is the code of each window of a text
+codes_small : (s : List ℕ) → Each1 (Fits w8) s
+    → Each1 (λ j. T (zeroes 16 w8 j || ltb j 16)) (map code (windows s))
+codes_small [] fits = tt
+codes_small (b ∷ s) fits = (subst T (sym (code_first b s fits.1)) tt, codes_small s fits.1)
+
+-- what the table gives for a code at an index, and what that is
+abbrev found : ℕ → ℕ → ℕ
+found j i = cond (zeroes 16 w8 j) zero (get_or (replicate 64 255) (16 * (i / 16) + j) zero)
+
+abbrev mask_of : ℕ → ℕ
+mask_of j = cond (ltb j 16) 255 zero
+
+given_by : (z l : Bool) (x y : ℕ) → T (z || l) → (l ≡ true → z ≡ false) → (l ≡ true → x ≡ y) → cond z zero x ≡ cond l y zero
+given_by true true x y t e f = absurd (true≢false (e refl))
+given_by true false x y t e f = refl
+given_by false true x y t e f = f refl
+given_by false false x y t e f = absurd t
+
+given : (j : ℕ) → T (zeroes 16 w8 j || ltb j 16) → (i : ℕ) → i < 64 → found j i ≡ mask_of j
+given j t i l =
+    given_by (zeroes 16 w8 j) (ltb j 16) _ 255 t (λ h. let k = ltb-true j 16 h in grind (arith, k))
+    (λ h. get_or-replicate 64 (16 * (i / 16) + j) 255 0 (omega (arith, l, ltb-true j 16 h)))
+
+-- from an index on
+looked_from : (js : List ℕ) (i : ℕ) → i + length js ≤ 64 → Each1 (λ j. T (zeroes 16 w8 j || ltb j 16)) js
+    → swz_l w8 16 (replicate 64 255) i js ≡ map mask_of js
+looked_from [] i l t = refl
+looked_from (j ∷ js) i l t =
+    ap₂ (λ x (y : List ℕ). x ∷ y) (given j t.0 i (omega (arith, l))) (looked_from js (suc i) (omega (arith, l)) t.1)
+
+-- the codes that lanes compute are those of the windows
+codes_computed : (v high low : List ℕ) → AreLanes v high low → code_lanes v high low ≡ map code (windows v)
+codes_computed v high low l =
     let ws = windows v in
-    let bytes = bytes_of_windows v in
     let percent = tops_compared w8 eqb v (replicate 64 37)
-    ∙ zip2_of_maps eqb (λ w. w.0) (λ _. 37) ws bytes (splat_is_map ws 64 37 l.many) in
+    ∙ zip2_of_maps eqb (λ w. w.0) (λ _. 37) ws (bytes_of_windows v) (splat_is_map ws 64 37 l.many) in
     let both = zip2_of_maps bit_or (λ w. w.1.0) (λ w. w.1.1) ws l.high_is l.low_is in
     let none = splat_is_map {Y = ℕ} ws 64 255 l.many in
-    let greatest : sel_l (map (top 7) (zip2 (λ a b. cond (eqb a b) 255 0) v (replicate 64 37))) (zip2 bit_or high low)
-    (replicate 64 255) ≡ map (λ w. cond (eqb w.0 37) (bit_or w.1.0 w.1.1) 255) ws =
-    cc (percent, both, none, chosen_of (λ w. eqb w.0 37) (λ w. bit_or w.1.0 w.1.1) (λ _. 255) ws) in
-    tops_compared w8 ltb _ (replicate 64 16) ∙ zip2_of_maps ltb (λ w. cond (eqb w.0 37) (bit_or w.1.0 w.1.1) 255) (λ _. 16)
-    ws greatest (splat_is_map ws 64 16 l.many)
+    cc (percent, both, none, chosen_of (λ w. eqb w.0 37) (λ w. bit_or w.1.0 w.1.1) (λ _. 255) ws)
 
--- the bits that lanes compute are those of the places where escapes begin
-pub starts_computed : (v codes : List ℕ) → length v ≡ 64 → Each1 (Fits w8) v → codes ≡ map hex_code v
-    → start_lanes v (codes_from 1 codes) (codes_from 2 codes) ≡ escape_starts v
-starts_computed v codes long fits e = start_bits v _ _ (lanes_are v codes long e) ∙ starts_are v fits
+-- the bytes of the mask
+abbrev mask_byte : Window → ℕ
+mask_byte w = cond (starts w) 255 0
+
+mask_computed : (v high low : List ℕ) → Each1 (Fits w8) v → AreLanes v high low
+    → mask_lanes v high low ≡ map mask_byte (windows v)
+mask_computed v high low fits l =
+    let ws = windows v in
+    let size : length (map code ws) ≡ 64 = length-map ws code ∙ l.many in
+    ap (swz_l w8 16 (replicate 64 255) 0) (codes_computed v high low l)
+    ∙ looked_from (map code ws) 0 (omega (arith, size)) (codes_small v fits) ∙ map-map mask_of code ws
+
+-- the swizzle's precondition
+pub mask_ok : (v codes : List ℕ) → length v ≡ 64 → Each1 (Fits w8) v → codes ≡ map hex_code v
+    → SwzOk w8 16 64 0 (code_lanes v (codes_from 1 codes) (codes_from 2 codes))
+mask_ok v codes long fits e =
+    let l = lanes_are v codes long e in
+    let ws = windows v in
+    let size : length (map code ws) ≡ 64 = length-map ws code ∙ l.many in
+    subst (λ js. SwzOk w8 16 64 0 js) (sym (codes_computed v _ _ l))
+    (SwzOk-from_Each1 w8 16 4 64 0 (map code ws) refl (omega (arith, size)) (codes_small v fits))
+
+-- a byte of the mask that is set
+set_is : (t : Bool) → eqb (cond t 255 0) 255 ≡ t
+set_is true = refl
+set_is false = refl
+
+sets_are : (ws : List Window) → map (λ w. eqb (mask_byte w) 255) ws ≡ map starts ws
+sets_are [] = refl
+sets_are (w ∷ ws) = ap₂ (λ x (y : List Bool). x ∷ y) (set_is (starts w)) (sets_are ws)
+
+-- the mask that lanes compute
+pub starts_mask : (v codes : List ℕ) → length v ≡ 64 → Each1 (Fits w8) v → codes ≡ map hex_code v
+    → mask_l (map (top 7) (zip2 (λ a b. cond (eqb a b) 255 0) (mask_lanes v (codes_from 1 codes) (codes_from 2 codes))
+    (replicate 64 255))) % 2 ^ 64 ≡ mask_l (escape_starts v)
+starts_mask v codes long fits e =
+    let ws = windows v in
+    let l = lanes_are v codes long e in
+    let bits = tops_compared w8 eqb (mask_lanes v (codes_from 1 codes) (codes_from 2 codes)) (replicate 64 255)
+    ∙ zip2_of_maps eqb mask_byte (λ _. 255) ws (mask_computed v _ _ fits l) (splat_is_map ws 64 255 l.many)
+    ∙ sets_are ws ∙ starts_are v fits in
+    let size : length (escape_starts v) ≡ 64 = length-starts v ∙ long in
+    ap (λ m. mask_l m % 2 ^ 64) bits ∙ mask_l-mod (escape_starts v) 64 (omega (arith, size))
+
+-- bytes and masks
+kept : (x : ℕ) → x < 256 → bit_and x 255 ≡ x
+kept x l = eqb-true _ _ (agree_below_at (λ x. eqb (bit_and x 255) x) (λ _. true) 256 x refl l)
+
+gone : (x : ℕ) → x < 256 → bit_and x 0 ≡ 0
+gone x l = eqb-true _ _ (agree_below_at (λ x. eqb (bit_and x 0) 0) (λ _. true) 256 x refl l)
+
+alone : (x : ℕ) → x < 256 → (bit_or x 0 ≡ x) × (bit_or 0 x ≡ x)
+alone x l = (
+  eqb-true _ _ (agree_below_at (λ x. eqb (bit_or x 0) x) (λ _. true) 256 x refl l),
+  eqb-true _ _ (agree_below_at (λ x. eqb (bit_or 0 x) x) (λ _. true) 256 x refl l),
+)
+
+-- one of two bytes is chosen by a mask
+blend : (t : Bool) (x b : ℕ) → x < 256 → b < 256
+    → bit_or (bit_and x (cond t 255 0)) (bit_and b (bit_xor (cond t 255 0) 255)) ≡ cond t x b
+blend true x b l m = ap₂ bit_or (kept x l) (gone b m) ∙ (alone x l).0
+blend false x b l m = ap₂ bit_or (gone x l) (kept b m) ∙ (alone b m).1
+
+-- so in each window
+abbrev sum : Window → ℕ
+sum w = add8 (w.1.0 * 2 ^ 4 % 256) w.1.1
+
+blends : (s : List ℕ) → Each1 (Fits w8) s
+    → map (λ w. bit_or (bit_and (sum w) (mask_byte w)) (bit_and w.0 (bit_xor (mask_byte w) 255))) (windows s)
+    ≡ map value (windows s)
+blends [] fits = refl
+blends (b ∷ s) fits =
+    let w : Window = (b, (first_code s, first_code (drop 1 s))) in
+    ap₂ (λ x (y : List ℕ). x ∷ y) (blend (starts w) (sum w) b (omega arith) fits.0.fits) (blends s fits.1)
 
 -- the values that lanes compute
 pub values_computed : (v codes : List ℕ) → length v ≡ 64 → Each1 (Fits w8) v → codes ≡ map hex_code v
-    → sel_l (start_lanes v (codes_from 1 codes) (codes_from 2 codes))
-    (zip2 add8 (zip2 (λ a b. a * 2 ^ b % 2 ^ 8) (codes_from 1 codes) (replicate 64 4)) (codes_from 2 codes)) v
+    → zip2 bit_or (zip2 bit_and (zip2 add8 (zip2 (λ a b. a * 2 ^ b % 2 ^ 8) (codes_from 1 codes) (replicate 64 4))
+    (codes_from 2 codes)) (mask_lanes v (codes_from 1 codes) (codes_from 2 codes)))
+    (zip2 bit_and v (zip2 bit_xor (mask_lanes v (codes_from 1 codes) (codes_from 2 codes)) (replicate 64 255)))
     ≡ place_values v
 values_computed v codes long fits e =
     let ws = windows v in
     let l = lanes_are v codes long e in
     let shl : ℕ → ℕ → ℕ = λ a b. a * 2 ^ b % 2 ^ 8 in
+    let mask = mask_computed v _ _ fits l in
     let high = zip2_of_maps shl (λ w. w.1.0) (λ _. 4) ws l.high_is (splat_is_map ws 64 4 l.many) in
     let sums = zip2_of_maps add8 (λ w. w.1.0 * 2 ^ 4 % 256) (λ w. w.1.1) ws high l.low_is in
-    let all = chosen_of starts (λ w. add8 (w.1.0 * 2 ^ 4 % 256) w.1.1) (λ w. w.0) ws in
-    ap₂ (λ m (r : List ℕ). sel_l m r v) (start_bits v _ _ l) sums
-    ∙ ap (λ r. sel_l (map starts ws) (map (λ w. add8 (w.1.0 * 2 ^ 4 % 256) w.1.1) ws) r) (bytes_of_windows v)
-    ∙ all ∙ values_are v fits
-
--- the mask that lanes compute
-pub starts_mask : (v codes : List ℕ) → length v ≡ 64 → Each1 (Fits w8) v → codes ≡ map hex_code v
-    → mask_l (start_lanes v (codes_from 1 codes) (codes_from 2 codes)) % 2 ^ 64 ≡ mask_l (escape_starts v)
-starts_mask v codes long fits e =
-    let size : length (escape_starts v) ≡ 64 = length-starts v ∙ long in
-    ap (λ m. mask_l m % 2 ^ 64) (starts_computed v codes long fits e) ∙ mask_l-mod (escape_starts v) 64 (omega (arith, size))
+    let left = zip2_of_maps bit_and sum mask_byte ws sums mask in
+    let rest = zip2_of_maps bit_xor mask_byte (λ _. 255) ws mask (splat_is_map ws 64 255 l.many) in
+    let right = zip2_of_maps bit_and (λ w. w.0) (λ w. bit_xor (mask_byte w) 255) ws (bytes_of_windows v) rest in
+    zip2_of_maps bit_or (λ w. bit_and (sum w) (mask_byte w)) (λ w. bit_and w.0 (bit_xor (mask_byte w) 255)) ws left right
+    ∙ blends v fits ∙ values_are v fits
 
 -- The bytes of a block are packed
 

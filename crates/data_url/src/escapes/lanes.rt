@@ -73,7 +73,10 @@ fn hex_codes(bytes: u8x64) -> u8x64
 
 /// Returns the value of the escape that begins at each byte, or the byte if none does, and a bit for each byte at which an
 /// escape begins that ends in the block.
-#[inline(never)]
+///
+/// Which of the two a byte is written as is chosen by a mask of bytes that a table gives. With `select`, the compiler moves
+/// the choice behind the caller's test of the bits, and computes it there one byte at a time.
+#[inline(always)]
 pub(super) fn decode_escapes(bytes: u8x64) -> (u8x64, u64)
     ensures values { result.0 ≡ place_values bytes }
     ensures starts { result.1 ≡ mask_l (escape_starts bytes) }
@@ -81,10 +84,14 @@ pub(super) fn decode_escapes(bytes: u8x64) -> (u8x64, u64)
     let codes = hex_codes(bytes);
     let high = codes.shuffle(u8x64::splat(255), NEXT);
     let low = codes.shuffle(u8x64::splat(255), SECOND);
-    let greatest = bytes
+    let codes = bytes
         .simd_eq(u8x64::splat(b'%'))
         .select(high | low, u8x64::splat(255));
-    let starts = greatest.simd_lt(u8x64::splat(16));
-    let values = (high << u8x64::splat(4)) + low;
-    (starts.select(values, bytes), starts.to_bitmask())
+    let chosen = u8x64::splat(255).swizzle_dyn_within::<16>(codes);
+    let others = bytes & (chosen ^ u8x64::splat(255));
+    let values = ((high << u8x64::splat(4)) + low) & chosen;
+    (
+        values | others,
+        chosen.simd_eq(u8x64::splat(255)).to_bitmask(),
+    )
 }

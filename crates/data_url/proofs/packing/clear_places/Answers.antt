@@ -1,4 +1,3 @@
-use Rattle.std.proofs.Common.{arith}
 use Rattle.data_url.proofs.packing.Places.{places_are, places_long, places_small}
 use Rattle.data_url.proofs.packing.clear_places.Goals as goal
 

@@ -1,5 +1,5 @@
-use Rattle.std.proofs.Common.{arith, ◌∙◌, ◌<◌, ◌^◌, ap, sym}
-use Rattle.data_url.proofs.escapes.Blocks.{Packs, dropped_few, packs}
+use Rattle.std.proofs.Common.{arith, ◌∙◌, ◌^◌, ap}
+use Rattle.data_url.proofs.escapes.Blocks.{dropped_few, packs}
 use Rattle.data_url.proofs.escapes.cursor.Cursor.pack_escapes.Goals as goal
 
 pub overflow_mul-starts : goal.overflow_mul-starts
