@@ -1,6 +1,9 @@
 -- What the lanes of a block compute: the codes of digits, and the escapes that begin in the block. For `lanes.rt`.
-use Rattle.std.proofs.Common.{List, [], ◌∷◌, ◌++◌, map, ◌≡◌, ℕ, ◌<◌, ◌≤◌, ltb, true, false, cond, eqb, get_or, suc, zero}
-use Rattle.std.proofs.Common.{length, take, drop, w8, ap, ◌+◌, ◌*◌, ◌-◌, ◌%◌, ◌^◌, Bool, refl, sym, ◌∙◌, arith, bit_or, ap₂, inl, inr, ◌&&◌, length-append, lit≤, lit<, subst, take-append-drop, ◌/◌, ◌==◌, ◌||◌, take-take, length-take-le, take_all, slice_range}
+use Rattle.std.proofs.Common.{List, [], ◌∷◌, ◌++◌, map, ◌≡◌, ℕ, ◌<◌, ◌≤◌, ltb, true, false, cond, eqb, get_or, suc}
+use Rattle.std.proofs.Common.{zero}
+use Rattle.std.proofs.Common.{length, take, drop, w8, ap, ◌+◌, ◌*◌, ◌-◌, ◌%◌, ◌^◌, Bool, refl, sym, ◌∙◌, arith}
+use Rattle.std.proofs.Common.{bit_or, ap₂, inl, inr, ◌&&◌, length-append, lit≤, lit<, subst, take-append-drop, ◌/◌}
+use Rattle.std.proofs.Common.{◌==◌, ◌||◌, take-take, length-take-le, take_all, slice_range}
 use Rattle.std.proofs.Common.{bit_and, bit_xor, leb}
 use Rattle.std.proofs.lemmas.Simd.{SwzOk, SwzOk-from_Each1, get_or-replicate, map-map, swz_l}
 use lib.Dec.{T}
@@ -12,7 +15,8 @@ use Rattle.std.proofs.lemmas.Simd.{splat_is_map, tops_compared, zip2_of_maps, zi
 use Rattle.std.proofs.lemmas.Nat.{le_or_l, le_or_r, or_lt}
 use Rattle.data_url.specs.Percent.{begins_with_escape, percent_decoding}
 use Rattle.data_url.specs.Steps.Groups.{clear}
-use Rattle.data_url.proofs.escapes.Reading.{begins_other, cleaned_keeps, decoded_byte, hex_other, percent_nil, plain_is, unmarked}
+use Rattle.data_url.proofs.escapes.Reading.{begins_other, cleaned_keeps, decoded_byte, hex_other, percent_nil}
+use Rattle.data_url.proofs.escapes.Reading.{plain_is, unmarked}
 use Rattle.std.{proofs.Math.Seq.{take-append-add}, proofs.lemmas.List.{drop-drop, take-append-le}}
 use Rattle.data_url.specs.{Fetch.{plain_body}, Steps.Walk.{Gathering, Gathers, IsBlock, IsPlain, IsWhole, KnowsAhead, Looking, MayGather, Reads}}
 use Rattle.data_url.specs.{Pieces.{text_of}, declared.escapes.cursor.Cursor.{Cursor}}

@@ -1,6 +1,7 @@
 -- What a walk reads: digits after tabs and newlines, the bytes between two places, and blocks with their marks.
 use Rattle.std.proofs.Common.{List, [], ◌∷◌, ◌++◌, length, drop, get_or, Option, None, Some, refl, sym, ap, ◌∙◌, arith}
-use Rattle.std.proofs.Common.{bit_and, bit_or, w8, Fits, ◌≢◌, inl, inr, ◌==◌, slice_range, take_all, length-take-le, take-take}
+use Rattle.std.proofs.Common.{bit_and, bit_or, w8, Fits, ◌≢◌, inl, inr, ◌==◌, slice_range, take_all, length-take-le}
+use Rattle.std.proofs.Common.{take-take}
 use Rattle.std.proofs.Common.{eqb, ltb, eqb-true, take, append_assoc, length-append, ◌/◌, ◌^◌, map, min, replicate, ◌%◌}
 use Rattle.std.proofs.Common.{map-id, ◌≡◌, ℕ, zero, suc, ◌+◌, ◌*◌, ◌-◌, ◌<◌, ◌≤◌, Bool, true, false, not, cond, ◌&&◌}
 use Rattle.std.{proofs.Common.{leb}, proofs.Math.Nat.{div-div-eq-div-mul, pow-suc}}

@@ -1,9 +1,11 @@
 -- The bytes of a row that are kept. For `packing.rt`.
 use Rattle.std.proofs.Common.{lit<, List, [], ◌∷◌, ◌++◌, map, ◌≡◌, ℕ, ◌<◌, ◌≤◌, ltb, true, get_or, suc, zero}
 use Rattle.std.proofs.Common.{length-take-le, length, take, drop, w8, ap, ◌+◌, ◌*◌, ◌-◌, length-drop}
-use Rattle.std.proofs.Common.{◌/◌, ◌%◌, ◌^◌, Bool, refl, sym, ◌∙◌, arith, ◌&&◌, take-take, take-append-drop, take_all, append_assoc, append-nil, lit≤, take-add}
+use Rattle.std.proofs.Common.{◌/◌, ◌%◌, ◌^◌, Bool, refl, sym, ◌∙◌, arith, ◌&&◌, take-take, take-append-drop, take_all}
+use Rattle.std.proofs.Common.{append_assoc, append-nil, lit≤, take-add}
 use Rattle.std.proofs.lemmas.Bool.{agree_below_at, and_parts, ltb-true}
-use Rattle.std.proofs.lemmas.Simd.{SwzOk, SwzOk-from_below, pick_l-range_with_len, pick_l_left, swz_l, take_more_put_chunk}
+use Rattle.std.proofs.lemmas.Simd.{SwzOk, SwzOk-from_below, pick_l-range_with_len, pick_l_left, swz_l}
+use Rattle.std.proofs.lemmas.Simd.{take_more_put_chunk}
 use Rattle.std.specs.Int.RustNames.{count_ones}
 use Rattle.std.specs.List.{range_with_len}
 use Rattle.std.proofs.Math.Nat.{pow-suc}

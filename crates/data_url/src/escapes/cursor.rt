@@ -26,7 +26,7 @@ const ESCAPE: usize = 3;
 const MANY: u32 = 14;
 
 /// With this many marks in a block, it is faster to decode its escapes in lanes than one by one.
-const SEVERAL: u32 = 2;
+const SEVERAL: u32 = 3;
 
 /// What is known of the text at the place of a walk.
 #[derive(Drop)]
@@ -195,8 +195,9 @@ impl<'a> Cursor<'a> {
         ensures knows { Knows self.new }
     {
         let mut len = self.gather_known(room);
+        let mut packs = true;
         while len <= BUFFER_LEN - 2 * BLOCK {
-            let Some(more) = self.gather_more(room, len) else {
+            let Some(more) = self.gather_more(room, len, &mut packs) else {
                 break;
             };
             len = more;
@@ -205,28 +206,67 @@ impl<'a> Cursor<'a> {
     }
 
     /// Gathers the next block, or what is left of the last one, after the bytes that were gathered before. Returns how many
-    /// bytes are gathered then, or None if the body ends or a long stretch begins.
+    /// bytes are gathered then, or None if the body ends or a long stretch begins. Blocks are packed only while `packs` is
+    /// true.
     #[inline(always)]
-    fn gather_more(&mut self, room: &mut [u8; BUFFER_LEN], len: usize) -> Option<usize>
+    fn gather_more(
+        &mut self,
+        room: &mut [u8; BUFFER_LEN],
+        len: usize,
+        packs: &mut bool,
+    ) -> Option<usize>
         requires gathering { Gathering self.old }
         requires room { len ≤ 384 }
         ensures gathering { Gathering self.new }
-        ensures gathers { Gathers self.old self.new room.old room.new len (option_map_or (λ n. n) result len) }
+        ensures gathers { Gathers self.old self.new room.old room.new len
+            (option_map_or (λ n. n) result len) }
         ensures few { IfSome result (λ n. n ≤ 512) }
         ensures moves { IfSome result (λ _. Moves self.old self.new × (self.old.ahead ≡ Ahead.Unknown)) }
     {
-        if self.is_before_whole() {
-            let bytes = self.look_whole();
-            if let Some(more) = self.pack_escapes(bytes, room, len) {
-                return Some(more);
-            }
+        if let Some(more) = self.pack_next(room, len, packs) {
+            return Some(more);
         }
         if !self.is_mark_near(len) {
             return None;
         }
         let is_followed = self.source.len() - self.block.seen >= BLOCK;
-        let dense = !is_followed || self.block.marks.count_ones() >= MANY;
-        Some(self.gather_block(room, len, dense))
+        Some(if is_followed && self.block.marks.count_ones() < MANY {
+            self.gather_block(room, len, false)
+        } else {
+            self.gather_block(room, len, true)
+        })
+    }
+
+    /// Packs the next block if `packs` is true, the block is a whole one, and it has several marks. Returns how many bytes are
+    /// gathered then, or None if the block is not packed. If it cannot be packed for its marks, `packs` becomes false, so that
+    /// this is not tried in vain for each block.
+    #[inline(always)]
+    fn pack_next(
+        &mut self,
+        room: &mut [u8; BUFFER_LEN],
+        len: usize,
+        packs: &mut bool,
+    ) -> Option<usize>
+        requires gathering { Gathering self.old }
+        requires room { len ≤ 384 }
+        ensures gathering { Gathering self.new }
+        ensures on { LooksOn self.old.source self.new.source }
+        ensures gathers { IfSome result (Gathers self.old self.new room.old room.new len) }
+        ensures few { IfSome result (λ n. n ≤ 512) }
+        ensures moves { IfSome result (λ _. Moves self.old self.new × (self.old.ahead ≡ Ahead.Unknown)) }
+        ensures stays { IfNone result ((room.new ≡ room.old) × (self.new.place ≡ self.old.place)
+            × (self.new.ahead ≡ self.old.ahead)) }
+    {
+        if !*packs || !self.is_before_whole() {
+            return None;
+        }
+        let bytes = self.look_whole();
+        if self.block.marks.count_ones() < SEVERAL {
+            return None;
+        }
+        let packed = self.pack_escapes(bytes, room, len);
+        *packs = packed.is_some();
+        packed
     }
 
     /// Returns whether the last block was read to its end, and 64 bytes follow.
@@ -264,8 +304,9 @@ impl<'a> Cursor<'a> {
         bytes
     }
 
-    /// Gathers a whole block if it has some marks and each of them begins an escape. The values of the escapes and the other
-    /// bytes are computed and packed in lanes. An escape that ends after the block is left to the next one.
+    /// Gathers a whole block if each of its marks before the last two bytes begins an escape. The values of the escapes and
+    /// the other bytes are computed and packed in lanes. A mark in the last two bytes is left to the next block. Otherwise
+    /// returns None, and gathers nothing.
     #[inline(always)]
     fn pack_escapes(
         &mut self,
@@ -277,12 +318,10 @@ impl<'a> Cursor<'a> {
         requires whole { IsWhole self.old bytes }
         ensures none { IfNone result ((self.new ≡ self.old) × (room.new ≡ room.old)) }
         ensures gathers { IfSome result (Gathers self.old self.new room.old room.new len) }
-        ensures gathering { IfSome result (λ n. Gathering self.new × (n ≤ 512) × (self.old.place < self.new.place)) }
+        ensures gathering { IfSome result
+            (λ n. Gathering self.new × (n ≤ 512) × (self.old.place < self.new.place)) }
     {
         let marks = self.block.marks;
-        if marks.count_ones() < SEVERAL {
-            return None;
-        }
         let (values, starts) = decode_escapes(bytes);
         if marks % (1 << 62) != starts {
             return None;

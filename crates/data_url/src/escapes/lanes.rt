@@ -74,8 +74,8 @@ fn hex_codes(bytes: u8x64) -> u8x64
 /// Returns the value of the escape that begins at each byte, or the byte if none does, and a bit for each byte at which an
 /// escape begins that ends in the block.
 ///
-/// Which of the two a byte is written as is chosen by a mask of bytes that a table gives. With `select`, the compiler moves
-/// the choice behind the caller's test of the bits, and computes it there one byte at a time.
+/// A table gives a mask of bytes that chooses between the value and the byte. With `select`, the compiler moves this choice
+/// behind the caller's test of the bits, and makes it one byte at a time.
 #[inline(always)]
 pub(super) fn decode_escapes(bytes: u8x64) -> (u8x64, u64)
     ensures values { result.0 ≡ place_values bytes }

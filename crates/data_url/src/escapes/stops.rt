@@ -29,8 +29,7 @@ pub(super) enum Stop {
 }
 
 impl Block {
-    /// Returns how many of 64 bytes come before the last two of them or, if the first or both of these are not marked, before
-    /// the first of them that is marked.
+    /// Returns how many of 64 bytes come before the first of the last two that is marked, or 64 if neither is.
     #[inline(always)]
     pub(super) fn len_before_last_marks(&self) -> usize
         ensures few { (62 ≤ result) × (result ≤ 64) }

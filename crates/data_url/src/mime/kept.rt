@@ -23,7 +23,7 @@ pub(super) const FINGERPRINTS_LEN: usize = 144;
 /// The bit in which the two cases of an ASCII letter differ.
 const CASE: u8 = 32;
 
-/// The pairs that are kept. Of the first ones there is a fingerprint each, so that a search compares the names of few.
+/// The pairs that are kept. Each of the first ones has a fingerprint, so that a search compares few names.
 /// The names of the later ones are also in a set.
 #[derive(Drop)]
 pub(super) struct KeptParameters {
