@@ -16,7 +16,7 @@ mod ours {
     include!("ours.rs");
 }
 
-/// The calls of the library of another commit, whose symbols `bench/run` gave a prefix.
+/// The calls of the library of another commit, whose symbols `bench/calls` gave a prefix.
 #[cfg(feature = "against")]
 mod theirs {
     macro_rules! symbol {
