@@ -106,7 +106,7 @@ begins_with_digit [] = false
 begins_with_digit (b ∷ s) = is_ascii_hexdigit b
 
 -- a text that does not begin with a digit, nor with a tab or newline, does not begin with a digit when it is cleaned
-other_first : (s : List ℕ) → (0 < length s → (is_tab_or_newline (get_or s 0 0) ≡ false)
+pub other_first : (s : List ℕ) → (0 < length s → (is_tab_or_newline (get_or s 0 0) ≡ false)
     × (is_ascii_hexdigit (get_or s 0 0) ≡ false)) → begins_with_digit (cleaned s) ≡ false
 other_first [] h = ap begins_with_digit cleaned_nil
 other_first (b ∷ s) h = grind (arith, cases_Bool, eqb-true, cleaned_hash, cleaned_keeps)
@@ -118,7 +118,7 @@ no_digit {text} {place} {looks} {looks'} n =
     grind (arith, same n.skipped, other_first (drop n.end text), get_or-drop, length-drop)
 
 -- a '%' and at most one byte before no digit are no escape
-no_escape : (raw s : List ℕ) → length raw < 2 → begins_with_digit s ≡ false
+pub no_escape : (raw s : List ℕ) → length raw < 2 → begins_with_digit s ≡ false
     → begins_with_escape (37 ∷ (raw ++ s)) ≡ false
 no_escape [] [] l h = refl
 no_escape [] (b ∷ []) l h = refl
@@ -389,11 +389,10 @@ pub marks_padded : (xs : List ℕ) (k : ℕ) → mask_l (map is_marked (xs ++ re
 marks_padded [] k = no_marks k
 marks_padded (x ∷ xs) k = grind (arith, marks_padded xs k)
 
--- the marks of fewer than 64 bytes, copied into a block of zeros
-pub marks_of_rest : (rest new zeros : List ℕ) (r k : ℕ) → new ≡ rest → zeros ≡ replicate 64 0 → k ≡ length rest
-    → r ≡ mask_l (map is_marked (put_mid 0 k zeros new)) → r ≡ mask_l (map is_marked rest)
-marks_of_rest rest new zeros r k e z l h =
-    cc (ap (drop k) z, drop-replicate {X = ℕ} k 64 0, marks_padded rest (64 - k))
+-- fewer than 64 bytes, copied into a block of zeros
+pub padded_is : (rest new zeros : List ℕ) (k : ℕ) → new ≡ rest → zeros ≡ replicate 64 0 → k ≡ length rest
+    → put_mid 0 k zeros new ≡ rest ++ replicate (64 - length rest) 0
+padded_is rest new zeros k e z l = cc (ap (drop k) z, drop-replicate {X = ℕ} k 64 0)
 
 -- the marks of the first 64 bytes from an index on, or of fewer, are those of the block there
 pub block_at : (text bytes : List ℕ) (place seen marks : ℕ) → bytes ≡ text → place ≤ length text

@@ -83,7 +83,7 @@ raised_range : map (λ p. (p + 8) % 256) (range_with_len 0 8) ≡ range_with_len
 raised_range = refl
 
 -- the bits after the first k do not matter to k items or fewer
-clear_low : (xs : List ℕ) (k m : ℕ) → length xs ≤ k → clear xs (m % 2 ^ k) ≡ clear xs m
+pub clear_low : (xs : List ℕ) (k m : ℕ) → length xs ≤ k → clear xs (m % 2 ^ k) ≡ clear xs m
 clear_low [] k m l = refl
 clear_low (x ∷ xs) zero m l = absurd (omega (arith, l))
 clear_low (x ∷ xs) (suc k) m l =

@@ -1,11 +1,22 @@
 -- The escapes of a block of text, and what its lanes compute.
 use Rattle.std.specs.Char.{digit_value, is_ascii_hexdigit}
-use Rattle.std.specs.Prelude.{[], if◌then◌else◌, ◌*◌, ◌+◌, ◌∷◌, Bool, List, ℕ}
+use Rattle.std.specs.Prelude.{[], if◌then◌else◌, ◌&&◌, ◌*◌, ◌+◌, ◌<◌, ◌==◌, ◌||◌, ◌∷◌, ◌≡◌, ◌≤◌, Bool, List, false, map, take, true, ℕ}
+use Rattle.std.specs.Simd.Lanes.{mask_l}
 use Rattle.data_url.specs.Percent.{begins_with_escape}
+use Rattle.data_url.specs.Steps.Groups.{clear}
+use Rattle.data_url.specs.Url.{is_tab_or_newline, number_sign, percent_sign}
 
--- the value of a hexadecimal digit, and 255 for any other byte
-abbrev pub hex_code : ℕ → ℕ
-hex_code b = if is_ascii_hexdigit b then digit_value b else 255
+-- the value of a hexadecimal digit, and 16 or more for any other byte
+pub record IsHexCode (b code : ℕ) : Type 0 where
+  pub digit : is_ascii_hexdigit b ≡ true → (code ≡ digit_value b) × (code < 16)
+  pub other : is_ascii_hexdigit b ≡ false → 16 ≤ code
+
+-- such a code for each byte
+abbrev pub AreHexCodes : List ℕ → List ℕ → Type 0
+AreHexCodes [] [] = Unit {0}
+AreHexCodes [] (code ∷ codes) = ⊥
+AreHexCodes (b ∷ s) [] = ⊥
+AreHexCodes (b ∷ s) (code ∷ codes) = IsHexCode b code × AreHexCodes s codes
 
 -- for each byte of a text, whether an escape begins there
 abbrev pub escape_starts : List ℕ → List Bool
@@ -24,3 +35,19 @@ first_value (a ∷ b ∷ c ∷ s) =
 abbrev pub place_values : List ℕ → List ℕ
 place_values [] = []
 place_values (b ∷ s) = first_value (b ∷ s) ∷ place_values s
+
+-- a tab or newline is among the first two bytes, or there are fewer bytes
+abbrev pub is_unsure : List ℕ → Bool
+is_unsure [] = true
+is_unsure (a ∷ []) = true
+is_unsure (a ∷ b ∷ s) = is_tab_or_newline a || is_tab_or_newline b
+
+-- for each byte of a text, whether it is a '#', or a '%' whose two next bytes do not show if an escape begins there
+abbrev pub stops : List ℕ → List Bool
+stops [] = []
+stops (b ∷ s) = ((b == number_sign) || ((b == percent_sign) && is_unsure s)) ∷ stops s
+
+-- the values at the first places of a block, without those of the digits of escapes, and without tabs and newlines
+abbrev pub front_values : List ℕ → ℕ → List ℕ
+front_values bytes used =
+    clear (take used (place_values bytes)) (6 * mask_l (escape_starts bytes) + mask_l (map is_tab_or_newline bytes))

@@ -2,16 +2,19 @@
 
 #![tactic(auto, using(crate::proofs::escapes::Walking::walks))]
 
-ghost use Rattle.std.specs.Prelude.{ℕ, [], ◌≡◌, ◌+◌, ◌<◌, ◌≤◌, IfNone, IfSome, IsTrue, drop, length, slice_index, true};
+ghost use Rattle.std.specs.Prelude.{ℕ, [], ◌≡◌, ◌+◌, ◌++◌, ◌==◌, ◌<◌, ◌≤◌, IfNone, IfSome, IsTrue, drop, false, length, map, slice_index, take, true};
+ghost use Rattle.std.specs.Simd.Lanes.{mask_l};
 ghost use Rattle.std.specs.Option.{option_map_or};
 ghost use Rattle.data_url.specs.Pieces.{is_slice_end, text_of, walk_at_start, walk_of};
 ghost use Rattle.data_url.specs.Steps.Chunks.{GivesBytes, IsBodyPrefix};
-ghost use Rattle.data_url.specs.Steps.Walk.{Gathering, Gathers, GoesOn, HasRoom, IsGathered, IsNear, IsPart, IsWhole, IsWide, Knows, KnowsAhead, Looking, LooksOn, MayGather, Moves, Searching, Spells};
+ghost use Rattle.data_url.specs.Steps.Escapes.{front_values};
+ghost use Rattle.data_url.specs.Url.{is_tab_or_newline, percent_sign};
+ghost use Rattle.data_url.specs.Steps.Walk.{Gathering, Gathers, GoesOn, HasRoom, IsGathered, IsLast, IsNear, IsPart, IsWhole, IsWide, Knows, KnowsAhead, Looking, LooksOn, MayGather, Moves, Searching, Spells};
 ghost use Rattle.data_url.specs.Steps.Window.{is_marked};
 
 use super::Piece;
-use super::lanes::{BLOCK, decode_escapes, marks_of};
-use super::source::Source;
+use super::lanes::{BLOCK, bits_of, decode_escapes, len_before_stop, marks_of, stops_of};
+use super::source::{Source, padded};
 use super::stops::{Block, Stop};
 use crate::packing::pack_block;
 use std::simd::prelude::*;
@@ -22,11 +25,14 @@ pub(crate) const BUFFER_LEN: usize = 512;
 /// How many bytes an escape has, without tabs and newlines.
 const ESCAPE: usize = 3;
 
-/// With this many marks in a block, its escapes are likely to follow one another.
-const MANY: u32 = 14;
-
 /// With this many marks in a block, it is faster to decode its escapes in lanes than one by one.
 const SEVERAL: u32 = 3;
+
+/// With this many marks in the last block, which is shorter, the same is true.
+const MANY: u32 = 6;
+
+/// With fewer bytes before the first stop of a block, its escapes are decoded one by one.
+const FEW: usize = 16;
 
 /// What is known of the text at the place of a walk.
 #[derive(Drop)]
@@ -55,6 +61,7 @@ impl<'a> Cursor<'a> {
     pub(super) fn new(text: &'a str) -> Self
         ensures walk { walk_of result ≡ walk_at_start text.entry.now }
         ensures looking { Looking result.source result.block 0 0 }
+        ensures unseen { result.block.seen ≡ 0 }
         ensures knows { Knows result }
     {
         Cursor {
@@ -69,14 +76,17 @@ impl<'a> Cursor<'a> {
         }
     }
 
-    /// The bytes before the first marked byte. The walk goes there.
+    /// The bytes before the first marked byte. The walk goes there. The first byte is read by itself: if it is marked, the bytes
+    /// after it can be packed.
     #[inline(always)]
     pub(super) fn next_prefix(&mut self) -> &'a [u8]
         requires start { self.old.place ≡ 0 }
         requires looking { Looking self.old.source self.old.block 0 0 }
+        requires unseen { self.old.block.seen ≡ 0 }
         ensures prefix { IsBodyPrefix (text_of self.old) result.now (walk_of self.new) }
         ensures knows { Knows self.new }
     {
+        self.block = self.source.look_first();
         let mark = self.block.next_mark(&mut self.source, 0);
         self.place = mark;
         self.ahead = if mark == self.source.len() {
@@ -195,9 +205,8 @@ impl<'a> Cursor<'a> {
         ensures knows { Knows self.new }
     {
         let mut len = self.gather_known(room);
-        let mut packs = true;
         while len <= BUFFER_LEN - 2 * BLOCK {
-            let Some(more) = self.gather_more(room, len, &mut packs) else {
+            let Some(more) = self.gather_more(room, len) else {
                 break;
             };
             len = more;
@@ -206,15 +215,9 @@ impl<'a> Cursor<'a> {
     }
 
     /// Gathers the next block, or what is left of the last one, after the bytes that were gathered before. Returns how many
-    /// bytes are gathered then, or None if the body ends or a long stretch begins. Blocks are packed only while `packs` is
-    /// true.
+    /// bytes are gathered then, or None if the body ends or a long stretch begins.
     #[inline(always)]
-    fn gather_more(
-        &mut self,
-        room: &mut [u8; BUFFER_LEN],
-        len: usize,
-        packs: &mut bool,
-    ) -> Option<usize>
+    fn gather_more(&mut self, room: &mut [u8; BUFFER_LEN], len: usize) -> Option<usize>
         requires gathering { Gathering self.old }
         requires room { len ≤ 384 }
         ensures gathering { Gathering self.new }
@@ -223,63 +226,66 @@ impl<'a> Cursor<'a> {
         ensures few { IfSome result (λ n. n ≤ 512) }
         ensures moves { IfSome result (λ _. Moves self.old self.new × (self.old.ahead ≡ Ahead.Unknown)) }
     {
-        if let Some(more) = self.pack_next(room, len, packs) {
-            return Some(more);
-        }
-        if !self.is_mark_near(len) {
+        if self.is_over() {
             return None;
         }
-        let is_followed = self.source.len() - self.block.seen >= BLOCK;
-        Some(if is_followed && self.block.marks.count_ones() < MANY {
-            self.gather_block(room, len, false)
-        } else {
+        if self.place >= self.block.seen {
+            if let Some(more) = self.pack_next(room, len) {
+                return Some(more);
+            }
+        }
+        if len == 0 && self.block.marks == 0 {
+            return None;
+        }
+        Some(if self.source.len() - self.block.seen >= BLOCK {
             self.gather_block(room, len, true)
+        } else {
+            self.gather_block(room, len, false)
         })
     }
 
-    /// Packs the next block if `packs` is true, the block is a whole one, and it has several marks. Returns how many bytes are
-    /// gathered then, or None if the block is not packed. If it cannot be packed for its marks, `packs` becomes false, so that
-    /// this is not tried in vain for each block.
+    /// Returns whether the body ends at the place.
     #[inline(always)]
-    fn pack_next(
-        &mut self,
-        room: &mut [u8; BUFFER_LEN],
-        len: usize,
-        packs: &mut bool,
-    ) -> Option<usize>
+    fn is_over(&mut self) -> bool
         requires gathering { Gathering self.old }
-        requires room { len ≤ 384 }
         ensures gathering { Gathering self.new }
-        ensures on { LooksOn self.old.source self.new.source }
-        ensures gathers { IfSome result (Gathers self.old self.new room.old room.new len) }
-        ensures few { IfSome result (λ n. n ≤ 512) }
-        ensures moves { IfSome result (λ _. Moves self.old self.new × (self.old.ahead ≡ Ahead.Unknown)) }
-        ensures stays { IfNone result ((room.new ≡ room.old) × (self.new.place ≡ self.old.place)
-            × (self.new.ahead ≡ self.old.ahead)) }
+        ensures source { self.new.source ≡ self.old.source }
+        ensures place { self.new.place ≡ self.old.place }
+        ensures more { result ≡ false → (self.new ≡ self.old) × (self.old.ahead ≡ Ahead.Unknown)
+            × (self.old.place < length (text_of self.old)) }
     {
-        if !*packs || !self.is_before_whole() {
-            return None;
+        if !matches!(self.ahead, Ahead::End) && self.place < self.source.len() {
+            return false;
+        }
+        self.ahead = Ahead::End;
+        true
+    }
+
+    /// Reads the next block, and packs it if it has several marks. Returns how many bytes are gathered then, or None if the
+    /// block is not packed.
+    #[inline(always)]
+    fn pack_next(&mut self, room: &mut [u8; BUFFER_LEN], len: usize) -> Option<usize>
+        requires looking { Looking self.old.source self.old.block self.old.place 0 }
+        requires unknown { self.old.ahead ≡ Ahead.Unknown }
+        requires some { self.old.place < length (text_of self.old) }
+        requires unseen { self.old.block.seen ≤ self.old.place }
+        requires room { len ≤ 384 }
+        ensures looking { Looking self.new.source self.new.block self.new.place 0 }
+        ensures unknown { self.new.ahead ≡ Ahead.Unknown }
+        ensures on { LooksOn self.old.source self.new.source }
+        ensures packed { IfSome result (λ n. Gathers self.old self.new room.old room.new len n × (n ≤ 512)
+            × (self.old.place < self.new.place)) }
+        ensures read { IfNone result ((room.new ≡ room.old) × (self.new.place ≡ self.old.place)
+            × (self.new.place < self.new.block.seen)) }
+    {
+        if self.source.len() - self.place < BLOCK {
+            return self.pack_rest(room, len);
         }
         let bytes = self.look_whole();
         if self.block.marks.count_ones() < SEVERAL {
             return None;
         }
-        let packed = self.pack_escapes(bytes, room, len);
-        *packs = packed.is_some();
-        packed
-    }
-
-    /// Returns whether the last block was read to its end, and 64 bytes follow.
-    #[inline(always)]
-    fn is_before_whole(&self) -> bool
-        requires { Gathering self.now }
-        ensures { IsTrue result → (self.now.place + 64 ≤ length (text_of self.now))
-            × (self.now.block.seen ≤ self.now.place) × (self.now.ahead ≡ Ahead.Unknown) }
-    {
-        if matches!(self.ahead, Ahead::End) || self.place < self.block.seen {
-            return false;
-        }
-        self.source.len() - self.place >= BLOCK
+        self.pack_marked(bytes, room, len)
     }
 
     /// Reads the next block, which is a whole one. Returns its bytes.
@@ -304,11 +310,38 @@ impl<'a> Cursor<'a> {
         bytes
     }
 
-    /// Gathers a whole block if each of its marks before the last two bytes begins an escape. The values of the escapes and
-    /// the other bytes are computed and packed in lanes. A mark in the last two bytes is left to the next block. Otherwise
-    /// returns None, and gathers nothing.
+    /// Packs the rest of the text, which is shorter than a block, if it has many marks and no stop.
     #[inline(always)]
-    fn pack_escapes(
+    fn pack_rest(&mut self, room: &mut [u8; BUFFER_LEN], len: usize) -> Option<usize>
+        requires looking { Looking self.old.source self.old.block self.old.place 0 }
+        requires unknown { self.old.ahead ≡ Ahead.Unknown }
+        requires rest { (self.old.place < length (text_of self.old)) × (length (text_of self.old) < self.old.place + 64) }
+        requires unseen { self.old.block.seen ≤ self.old.place }
+        requires room { len ≤ 384 }
+        ensures looking { Looking self.new.source self.new.block self.new.place 0 }
+        ensures on { LooksOn self.old.source self.new.source }
+        ensures gathers { IfSome result (λ n. Gathers self.old self.new room.old room.new len n × (n ≤ 512)
+            × (self.old.place < self.new.place)) }
+        ensures ahead { self.new.ahead ≡ self.old.ahead }
+        ensures none { IfNone result ((room.new ≡ room.old) × (self.new.place ≡ self.old.place)
+            × (self.new.place < self.new.block.seen)) }
+    {
+        let rest = self.source.look_rest(self.place);
+        let (marks, packed) = pack_last(rest, room, len);
+        self.block = Block {
+            base: self.place,
+            seen: self.source.len(),
+            marks,
+        };
+        let end = packed?;
+        self.place = self.block.seen;
+        Some(end)
+    }
+
+    /// Gathers the block up to its first stop in lanes. Returns None, and gathers nothing, if there are only few bytes before
+    /// the stop.
+    #[inline(always)]
+    fn pack_marked(
         &mut self,
         bytes: u8x64,
         room: &mut [u8; BUFFER_LEN],
@@ -316,26 +349,44 @@ impl<'a> Cursor<'a> {
     ) -> Option<usize>
         requires may { MayGather self.old len }
         requires whole { IsWhole self.old bytes }
+        requires room { len ≤ 384 }
+        ensures looking { Looking self.new.source self.new.block self.new.place 0 }
+        ensures ahead { self.new.ahead ≡ self.old.ahead }
+        ensures packed { IfSome result (λ n. Gathers self.old self.new room.old room.new len n × (n ≤ 512)
+            × (self.old.place < self.new.place)) }
         ensures none { IfNone result ((self.new ≡ self.old) × (room.new ≡ room.old)) }
-        ensures gathers { IfSome result (Gathers self.old self.new room.old room.new len) }
-        ensures gathering { IfSome result
-            (λ n. Gathering self.new × (n ≤ 512) × (self.old.place < self.new.place)) }
     {
-        let marks = self.block.marks;
-        let (values, starts) = decode_escapes(bytes);
-        if marks % (1 << 62) != starts {
+        let _len = self.source.len();
+        let percents = bits_of(bytes, b'%');
+        let (passed, stops) = stops_of(bytes, self.block.marks, percents);
+        let used = len_before_stop(stops, BLOCK);
+        if used < FEW {
             return None;
         }
+        let end = pack_front(bytes, percents, passed, used, room, len);
+        self.pass_front(used);
+        Some(end)
+    }
+
+    /// Goes on after the first `used` bytes of the block. If at most two are left, they are read again with the next block.
+    #[inline(always)]
+    fn pass_front(&mut self, used: usize)
+        requires looking { Looking self.old.source self.old.block self.old.place 0 }
+        requires used { (2 ≤ used) × (self.old.place + used ≤ self.old.block.seen) }
+        ensures looking { Looking self.new.source self.new.block self.new.place 0 }
+        ensures place { self.new.place ≡ self.old.place + used }
+        ensures source { self.new.source ≡ self.old.source }
+        ensures ahead { self.new.ahead ≡ self.old.ahead }
+    {
         let _len = self.source.len();
-        let used = self.block.len_before_last_marks();
-        let end = pack_block(values, 6 * starts, &mut room[..], len);
         self.place += used;
-        self.block = Block {
-            base: self.place,
-            seen: self.place,
-            marks: 0,
-        };
-        Some(end - (BLOCK - used))
+        if self.block.seen - self.place <= 2 {
+            self.block = Block {
+                base: self.place,
+                seen: self.place,
+                marks: 0,
+            };
+        }
     }
 
     /// Gathers the escape that is known to be at the place.
@@ -361,33 +412,13 @@ impl<'a> Cursor<'a> {
         }
     }
 
-    /// Reads the block at the place, and returns whether to gather it: it has a mark, or bytes were gathered before it.
+    /// Gathers the rest of the block that was read, after the bytes that were gathered before. Stretches are copied by whole
+    /// blocks if `wide` is true.
     #[inline(always)]
-    fn is_mark_near(&mut self, len: usize) -> bool
-        requires gathering { Gathering self.old }
-        ensures gathering { Gathering self.new }
-        ensures on { LooksOn self.old.source self.new.source }
-        ensures place { self.new.place ≡ self.old.place }
-        ensures near { IsTrue result → IsNear self.new × (self.old.ahead ≡ Ahead.Unknown) }
-    {
-        let place = self.place;
-        if matches!(self.ahead, Ahead::End) || place >= self.source.len() {
-            self.ahead = Ahead::End;
-            return false;
-        }
-        if place >= self.block.seen {
-            self.block = self.source.look_block(place, false);
-        }
-        len > 0 || self.block.marks != 0
-    }
-
-    /// Gathers the rest of the block that was read, after the bytes that were gathered before. In a dense block escapes
-    /// follow one another. Any other block is copied by whole blocks.
-    #[inline(always)]
-    fn gather_block(&mut self, room: &mut [u8; BUFFER_LEN], len: usize, dense: bool) -> usize
+    fn gather_block(&mut self, room: &mut [u8; BUFFER_LEN], len: usize, wide: bool) -> usize
         requires may { MayGather self.old len }
         requires here { self.old.place < self.old.block.seen }
-        requires wide { IsWide self.old dense }
+        requires wide { IsWide self.old wide }
         ensures gathers { Gathers self.old self.new room.old room.new len result }
         ensures few { result ≤ 512 }
         ensures gathering { Gathering self.new }
@@ -397,13 +428,13 @@ impl<'a> Cursor<'a> {
         while self.place < self.block.seen {
             let place = self.place;
             let Some(mark) = self.block.mark_from(&self.source, place) else {
-                self.source.copy(place, self.block.seen, room, len, !dense);
+                self.source.copy(place, self.block.seen, room, len, wide);
                 self.place = self.block.seen;
                 return len + (self.place - place);
             };
-            self.source.copy(place, mark, room, len, !dense);
+            self.source.copy(place, mark, room, len, wide);
             self.place = mark;
-            let (more, ended) = self.gather_stop(room, len + (mark - place), dense);
+            let (more, ended) = self.gather_stop(room, len + (mark - place));
             len = more;
             if ended {
                 return len;
@@ -414,7 +445,7 @@ impl<'a> Cursor<'a> {
 
     /// Gathers what begins at the mark at the place.
     #[inline(always)]
-    fn gather_stop(&mut self, room: &mut [u8; BUFFER_LEN], len: usize, dense: bool) -> (usize, bool)
+    fn gather_stop(&mut self, room: &mut [u8; BUFFER_LEN], len: usize) -> (usize, bool)
         requires may { MayGather self.old len }
         requires here { self.old.place < self.old.block.seen }
         requires marked { is_marked (slice_index (text_of self.old) self.old.place) ≡ true }
@@ -435,12 +466,7 @@ impl<'a> Cursor<'a> {
             Stop::Escape(value, end) => {
                 room[len] = value;
                 self.place = end;
-                let len = if dense {
-                    self.gather_escapes(room, len + 1)
-                } else {
-                    len + 1
-                };
-                (len, false)
+                (len + 1, false)
             }
             Stop::End => {
                 self.ahead = Ahead::End;
@@ -448,27 +474,53 @@ impl<'a> Cursor<'a> {
             }
         }
     }
+}
 
-    /// Gathers the values of escapes that follow one another after an escape.
-    #[inline(always)]
-    fn gather_escapes(&mut self, room: &mut [u8; BUFFER_LEN], len: usize) -> usize
-        requires unknown { self.old.ahead ≡ Ahead.Unknown }
-        requires looking { Looking self.old.source self.old.block self.old.place 3 }
-        requires room { HasRoom self.old len }
-        ensures gathers { Gathers self.old self.new room.old room.new len result }
-        ensures may { MayGather self.new result }
-        ensures block { self.new.block.seen ≡ self.old.block.seen }
-    {
-        let mut len = len;
-        let end = BUFFER_LEN.min(len + (self.source.len() - self.place) / ESCAPE);
-        while len < end {
-            let Some(value) = self.source.escape_here(self.place) else {
-                return len;
-            };
-            self.place += ESCAPE;
-            room[len] = value;
-            len += 1;
-        }
-        len
+/// Packs the first `used` bytes of a block after `len` bytes: the values of its escapes, and the other bytes but tabs and
+/// newlines. Returns how many bytes are gathered then. `percents` has a bit for each `%`, and `passed` one for each tab and
+/// newline.
+#[inline(always)]
+fn pack_front(
+    bytes: u8x64,
+    percents: u64,
+    passed: u64,
+    used: usize,
+    room: &mut [u8; BUFFER_LEN],
+    len: usize,
+) -> usize
+    requires percents { percents ≡ mask_l (map (λ b. b == percent_sign) bytes) }
+    requires passed { passed ≡ mask_l (map is_tab_or_newline bytes) }
+    requires used { (0 < used) × (used ≤ 64) }
+    requires room { len ≤ 384 }
+    ensures few { result ≤ len + 64 }
+    ensures packed { take result room.new ≡ take len room.old ++ front_values bytes used }
+{
+    let (values, starts) = decode_escapes(bytes, percents);
+    let front = u64::MAX >> (BLOCK - used);
+    let dropped = ((6 * starts + passed) & front) + !front;
+    pack_block(values, dropped, &mut room[..], len)
+}
+
+/// Returns the marks of the last bytes of a text, which are fewer than 64, and, if they are many and there is no stop, how many
+/// bytes are gathered after these are packed.
+#[inline(never)]
+fn pack_last(rest: &[u8], room: &mut [u8; BUFFER_LEN], len: usize) -> (u64, Option<usize>)
+    requires rest { (0 < length rest.now) × (length rest.now < 64) }
+    requires room { len ≤ 384 }
+    ensures marks { result.0 ≡ mask_l (map is_marked rest.now) }
+    ensures none { IfNone result.1 (room.new ≡ room.old) }
+    ensures packed { IfSome result.1 (λ end. (end ≤ 512) × IsLast rest.now room.old room.new len end) }
+{
+    let bytes = padded(rest);
+    let marks = marks_of(bytes, false);
+    if marks.count_ones() < MANY {
+        return (marks, None);
     }
+    let percents = bits_of(bytes, b'%');
+    let (passed, stops) = stops_of(bytes, marks, percents);
+    if len_before_stop(stops, rest.len()) < rest.len() {
+        return (marks, None);
+    }
+    let end = pack_front(bytes, percents, passed, rest.len(), room, len);
+    (marks, Some(end))
 }

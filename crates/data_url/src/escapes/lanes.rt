@@ -2,10 +2,11 @@
 
 #![tactic(auto, using(crate::proofs::escapes::Reading::marks))]
 
-ghost use Rattle.std.specs.Prelude.{◌≡◌, map};
+ghost use Rattle.std.specs.Prelude.{◌≡◌, ◌%◌, ◌/◌, ◌==◌, ◌^◌, ◌<◌, ◌≤◌, map};
 ghost use Rattle.std.specs.Simd.Lanes.{mask_l};
-ghost use Rattle.data_url.specs.Steps.Escapes.{escape_starts, hex_code, place_values};
+ghost use Rattle.data_url.specs.Steps.Escapes.{AreHexCodes, escape_starts, place_values, stops};
 ghost use Rattle.data_url.specs.Steps.Window.{is_marked};
+ghost use Rattle.data_url.specs.Url.{is_tab_or_newline, percent_sign};
 
 use std::simd::prelude::*;
 
@@ -52,46 +53,79 @@ const SECOND: [usize; 64] = [
     50, 51, 52, 53, 54, 55, 56, 57, 58, 59, 60, 61, 62, 63, 64, 65,
 ];
 
-/// Added to a digit, modulo 256, gives its value.
-const DIGIT: u8 = 208;
-
-/// Added to a letter from `a` to `f`, modulo 256, gives its value less ten.
-const LETTER: u8 = 159;
-
-/// The value of each hexadecimal digit, and 255 for any other byte.
+/// Returns the value of each hexadecimal digit, and 16 or more for any other byte. In `digits` only digits are less than 16,
+/// and in `letters` only letters.
 #[inline(always)]
 fn hex_codes(bytes: u8x64) -> u8x64
-    ensures { result ≡ map hex_code bytes }
+    ensures { AreHexCodes bytes result }
 {
-    let digits = bytes + u8x64::splat(DIGIT);
-    let letters = (bytes | u8x64::splat(32)) + u8x64::splat(LETTER);
-    let others = letters
-        .simd_lt(u8x64::splat(6))
-        .select(letters + u8x64::splat(10), u8x64::splat(255));
-    digits.simd_lt(u8x64::splat(10)).select(digits, others)
+    let last = bytes + u8x64::splat(255 - b'9');
+    let digits = last.saturating_sub(u8x64::splat(6)) - u8x64::splat(240);
+    let upper = (bytes & u8x64::splat(223)) - u8x64::splat(b'A');
+    let letters = upper.simd_min(u8x64::splat(245)) + u8x64::splat(10);
+    digits.simd_min(letters)
 }
 
 /// Returns the value of the escape that begins at each byte, or the byte if none does, and a bit for each byte at which an
-/// escape begins that ends in the block.
-///
-/// A table gives a mask of bytes that chooses between the value and the byte. With `select`, the compiler moves this choice
-/// behind the caller's test of the bits, and makes it one byte at a time.
+/// escape begins that ends in the block. `percents` has a bit for each `%`.
 #[inline(always)]
-pub(super) fn decode_escapes(bytes: u8x64) -> (u8x64, u64)
+pub(super) fn decode_escapes(bytes: u8x64, percents: u64) -> (u8x64, u64)
+    requires { percents ≡ mask_l (map (λ b. b == percent_sign) bytes) }
     ensures values { result.0 ≡ place_values bytes }
     ensures starts { result.1 ≡ mask_l (escape_starts bytes) }
 {
+    if percents == 0 {
+        return (bytes, 0);
+    }
     let codes = hex_codes(bytes);
     let high = codes.shuffle(u8x64::splat(255), NEXT);
     let low = codes.shuffle(u8x64::splat(255), SECOND);
-    let codes = bytes
+    let starts = bytes
         .simd_eq(u8x64::splat(b'%'))
-        .select(high | low, u8x64::splat(255));
-    let chosen = u8x64::splat(255).swizzle_dyn_within::<16>(codes);
-    let others = bytes & (chosen ^ u8x64::splat(255));
-    let values = ((high << u8x64::splat(4)) + low) & chosen;
-    (
-        values | others,
-        chosen.simd_eq(u8x64::splat(255)).to_bitmask(),
-    )
+        .select(high | low, u8x64::splat(255))
+        .simd_lt(u8x64::splat(16));
+    let values = (high << u8x64::splat(4)) + low;
+    (starts.select(values, bytes), starts.to_bitmask())
+}
+
+/// Returns a bit for each byte of a block that is equal to `byte`.
+#[inline(always)]
+pub(super) fn bits_of(bytes: u8x64, byte: u8) -> u64
+    ensures { result ≡ mask_l (map (λ b. b == byte) bytes) }
+{
+    bytes.simd_eq(u8x64::splat(byte)).to_bitmask()
+}
+
+/// The bits of the last two bytes of a block.
+const LAST_TWO: u64 = 3 << 62;
+
+/// Returns a bit for each tab and newline of a block, and a bit for each byte at which its lanes cannot tell what begins there:
+/// a `#`, and a `%` that has a tab or newline in the two bytes after it or is one of the last two bytes. `marks` has a bit for
+/// each mark, and `percents` one for each `%`.
+#[inline(always)]
+pub(super) fn stops_of(bytes: u8x64, marks: u64, percents: u64) -> (u64, u64)
+    requires marks { marks ≡ mask_l (map is_marked bytes) }
+    requires percents { percents ≡ mask_l (map (λ b. b == percent_sign) bytes) }
+    ensures passed { result.0 ≡ mask_l (map is_tab_or_newline bytes) }
+    ensures stops { result.1 ≡ mask_l (stops bytes) }
+{
+    let others = marks - percents;
+    if others == 0 {
+        return (0, percents & LAST_TWO);
+    }
+    let hashes = bits_of(bytes, b'#');
+    let passed = others - hashes;
+    let near = passed >> 1 | passed >> 2;
+    (passed, hashes + (percents & (near | LAST_TWO)))
+}
+
+/// Returns how many of the first `size` bytes come before the first stop.
+#[inline(always)]
+pub(super) fn len_before_stop(stops: u64, size: usize) -> usize
+    requires { size ≤ 64 }
+    ensures few { result ≤ size }
+    ensures none { stops % 2 ^ result ≡ 0 }
+    ensures stop { result < size → stops / 2 ^ result % 2 ≡ 1 }
+{
+    size.min(stops.trailing_zeros() as usize)
 }

@@ -2,7 +2,7 @@
 
 #![tactic(auto, using(crate::proofs::escapes::Walking::sources))]
 
-ghost use Rattle.std.specs.Prelude.{◌≡◌, IsTrue, [], ◌+◌, ◌-◌, ◌^◌, ◌++◌, ◌<◌, ◌≤◌, drop, length, map, min, slice_index, slice_range, take};
+ghost use Rattle.std.specs.Prelude.{◌≡◌, IsTrue, [], ◌+◌, ◌-◌, ◌^◌, ◌++◌, ◌<◌, ◌≤◌, drop, length, map, min, replicate, slice_index, slice_range, take};
 ghost use Rattle.std.specs.Simd.Lanes.{mask_l};
 ghost use Rattle.std.specs.Option.{option_map};
 ghost use Rattle.data_url.specs.Steps.Tail.{IsBodyEnd};
@@ -67,6 +67,41 @@ impl<'a> Source<'a> {
     {
         self.looks.count(BLOCK);
         u8x64::from_slice(&self.text.as_bytes()[place..])
+    }
+
+    /// Reads the first byte of the text as a block, if there is one. It counts as a look.
+    #[inline(always)]
+    pub(super) fn look_first(&mut self) -> Block
+        ensures base { result.base ≡ 0 }
+        ensures seen { result.seen ≡ min 1 (length self.old.text.now) }
+        ensures block { IsBlock self.old.text.now 0 result.seen result.marks }
+        ensures text { self.new.text.now ≡ self.old.text.now }
+        ensures looks { self.new.looks ≡ self.old.looks + result.seen }
+    {
+        let mut block = Block {
+            base: 0,
+            seen: 0,
+            marks: 0,
+        };
+        if self.len() > 0 {
+            let is_marked = matches!(self.look(0), b'\t' | b'\n' | b'\r' | b'#' | b'%');
+            block.seen = 1;
+            block.marks = u64::from(is_marked);
+        }
+        block
+    }
+
+    /// Returns the text from a place on. Each of its bytes counts as a look.
+    #[inline(always)]
+    pub(super) fn look_rest(&mut self, place: usize) -> &'a [u8]
+        requires { place ≤ length self.old.text.now }
+        ensures bytes { result.now ≡ drop place self.old.text.now }
+        ensures text { self.new.text.now ≡ self.old.text.now }
+        ensures looks { self.new.looks + place ≡ self.old.looks + length self.old.text.now }
+    {
+        let rest = &self.text.as_bytes()[place..];
+        self.looks.count(rest.len());
+        rest
     }
 
     /// Reads the block of at most 64 bytes at a place. Each of its bytes counts as a look. It is faster if `sparse` says
@@ -167,7 +202,16 @@ fn last_marks(rest: &[u8]) -> u64
     requires { length rest.now < 64 }
     ensures { result ≡ mask_l (map is_marked rest.now) }
 {
+    marks_of(padded(rest), false)
+}
+
+/// Returns fewer than 64 bytes, and then zeros.
+#[inline(always)]
+pub(super) fn padded(rest: &[u8]) -> u8x64
+    requires { length rest.now < 64 }
+    ensures { result ≡ rest.now ++ replicate (64 - length rest.now) 0 }
+{
     let mut block = [0; BLOCK];
     block[..rest.len()].copy_from_slice(rest);
-    marks_of(u8x64::from_array(block), false)
+    u8x64::from_array(block)
 }

@@ -2,7 +2,7 @@
 
 #![tactic(auto, using(crate::proofs::escapes::Reading::stops))]
 
-ghost use Rattle.std.specs.Prelude.{◌≡◌, ◌%◌, ◌/◌, ◌^◌, ◌<◌, ◌≤◌, MatchOption, length, slice_index, true};
+ghost use Rattle.std.specs.Prelude.{◌≡◌, ◌^◌, ◌<◌, ◌≤◌, MatchOption, length, slice_index, true};
 ghost use Rattle.data_url.specs.Steps.Walk.{IsClear, IsNextMark, IsStop, Looking, LooksOn};
 ghost use Rattle.data_url.specs.Steps.Window.{is_marked};
 
@@ -29,20 +29,6 @@ pub(super) enum Stop {
 }
 
 impl Block {
-    /// Returns how many of 64 bytes come before the first of the last two that is marked, or 64 if neither is.
-    #[inline(always)]
-    pub(super) fn len_before_last_marks(&self) -> usize
-        ensures few { (62 ≤ result) × (result ≤ 64) }
-        ensures same { self.now.marks % 2 ^ result ≡ self.now.marks % 2 ^ 62 }
-        ensures marked { result < 64 → self.now.marks / 2 ^ result % 2 ≡ 1 }
-    {
-        match self.marks >> 62 {
-            0 => 64,
-            2 => 63,
-            _ => 62,
-        }
-    }
-
     /// The place of the first marked byte of the block from a place on.
     #[inline(always)]
     pub(super) fn mark_from(&self, source: &Source<'_>, place: usize) -> Option<usize>

@@ -1,14 +1,18 @@
-use Rattle.data_url.proofs.escapes.Blocks.{mask_ok, starts_mask, values_computed}
+use Rattle.data_url.proofs.escapes.Blocks.{none_start, starts_mask, values_computed}
 use Rattle.data_url.proofs.escapes.lanes.decode_escapes.Goals as goal
-
-pub swizzle-chosen : goal.swizzle-chosen
-swizzle-chosen c =
-    mask_ok c.args.bytes c.hex_codes-codes.result c.fits-bytes.0 c.fits-bytes.1 c.hex_codes-codes.ensures
 
 pub returns-clause-values : goal.returns-clause-values
 returns-clause-values c =
-    values_computed c.args.bytes c.hex_codes-codes.result c.fits-bytes.0 c.fits-bytes.1 c.hex_codes-codes.ensures
+    values_computed c.args.bytes c.hex_codes-codes.result c.fits-bytes.0 c.hex_codes-codes.ensures
 
 pub returns-clause-starts : goal.returns-clause-starts
 returns-clause-starts c =
-    starts_mask c.args.bytes c.hex_codes-codes.result c.fits-bytes.0 c.fits-bytes.1 c.hex_codes-codes.ensures
+    starts_mask c.args.bytes c.hex_codes-codes.result c.fits-bytes.0 c.hex_codes-codes.ensures
+
+pub returns-then-percents-eq0-clause-values : goal.returns-then-percents-eq0-clause-values
+returns-then-percents-eq0-clause-values c =
+    (none_start c.args.bytes c.args.percents c.requires c.if-percents-eq0.true).0
+
+pub returns-then-percents-eq0-clause-starts : goal.returns-then-percents-eq0-clause-starts
+returns-then-percents-eq0-clause-starts c =
+    (none_start c.args.bytes c.args.percents c.requires c.if-percents-eq0.true).1

@@ -1,10 +1,15 @@
-use Rattle.std.proofs.Common.{arith, ◌∙◌}
+use Rattle.std.proofs.Common.{arith, ◌∙◌, subst}
+use Rattle.data_url.specs.{Pieces.{text_of}, Steps.Walk.{IsNextMark}}
 use Rattle.data_url.proofs.escapes.Walking.{end_knows, front_is, front_knows}
 use Rattle.data_url.proofs.escapes.cursor.Cursor.next_prefix.Goals as goal
 
 pub returns-clause-prefix : goal.returns-clause-prefix
 returns-clause-prefix c =
-    let m = c.next_mark-mark.ensures in front_is m.on.text_stays (grind arith) m.mark (grind arith)
+    let m = c.next_mark-mark.ensures in
+    let text = c.look_first-self.ensures.text in
+    let mark : IsNextMark (text_of c.args.self.now) 0 c.next_mark-mark.result =
+    subst (λ t. IsNextMark t 0 c.next_mark-mark.result) text m.mark in
+    front_is {text = text_of c.args.self.now} (m.on.text_stays ∙ text) (grind arith) mark (grind arith)
 
 pub returns-clause-knows : goal.returns-clause-knows
 returns-clause-knows c =
