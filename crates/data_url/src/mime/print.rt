@@ -73,7 +73,8 @@ fn write_each_escaped<W: fmt::Write>(f: &mut fmt::Formatter<W>, text: &str) -> f
     Ok(())
 }
 
-/// Writes a code point, with a `\` before a `"` or a `\`.
+/// Writes a code point, with a `\` before a `"` or a `\`. This is one call of the writer. An ASCII code point has an arm of
+/// its own, in which its length is a constant.
 fn write_escaped_char<W: fmt::Write>(f: &mut fmt::Formatter<W>, c: char) -> fmt::Result
     ensures { WritesStyledOnOk W.write_str_gives f.old result
         (encode_utf8_all (escaped_code_point c)) f.new }
@@ -81,6 +82,7 @@ fn write_escaped_char<W: fmt::Write>(f: &mut fmt::Formatter<W>, c: char) -> fmt:
     match c {
         '"' => f.write_str("\\\""),
         '\\' => f.write_str("\\\\"),
-        _ => f.write_char(c),
+        '\0'..='\x7f' => f.write_str(c.encode_utf8(&mut [0])),
+        _ => f.write_str(c.encode_utf8(&mut [0; 4])),
     }
 }
