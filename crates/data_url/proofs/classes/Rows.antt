@@ -1,24 +1,33 @@
 -- Classes of bytes, sixteen bytes at a time. For `rows_len` and `span`.
-use Rattle.std.proofs.Common.{bit_and, get_or, true, false, sym, ap, ◌∙◌, ⊎_elim, arith, w8, ◌==◌, ◌||◌, not}
+use Rattle.std.proofs.Common.{bit_and, true, false, sym, ap, ◌∙◌, ⊎_elim, arith, w8, ◌==◌, ◌||◌, not}
 use Rattle.std.{proofs.Common.{drop, length}, proofs.lemmas.Simd.{bitmask_splat, map-map, none_from_empty_mask}}
-use Rattle.std.proofs.Common.{slice_index, ◌≡◌, ℕ, ◌+◌, ◌/◌, ◌%◌, ◌^◌, ◌<◌, ◌≤◌, Bool, List, [], ◌∷◌, cond, map, take}
+use Rattle.std.proofs.Common.{slice_index, ◌≡◌, ℕ, ◌+◌, ◌%◌, ◌^◌, ◌<◌, ◌≤◌, Bool, List, [], ◌∷◌, cond, map, take}
 use Rattle.std.{proofs.lemmas.Bool.{agree_below, agree_below_at, cases_lt, false≢true}, proofs.lemmas.List.{length-map}}
-use Rattle.data_url.specs.Steps.Classes.{AreOf, is_marked}
-use Rattle.data_url.specs.{declared.classes.TheConstants.{CLASSES}, declared.classes.lanes.TheConstants.{COLUMNS}}
-use Rattle.data_url.proofs.forgiving_base64.Vectors.{differs, joined}
-use lib.Lanes.{mask_l, top, zip2}
+use Rattle.std.{proofs.Common.{bit_or, eqb, ◌&&◌}, proofs.Math.Bool.{and_assoc}, specs.List.{list_all}}
+use Rattle.data_url.specs.Steps.Classes.{AreOf, is_marked, looked_up}
+use Rattle.data_url.specs.declared.classes.TheConstants.{CLASSES}
+use Rattle.data_url.proofs.forgiving_base64.Vectors.{differs, or_zero}
+use lib.Lanes.{fold_l, mask_l, top, zip2}
 
--- what the lanes compute from a row with both tables is the mask of the row's marked bytes
-pub marks_are : (others v low high : List ℕ) → length v ≡ 16 → low ≡ map (λ b. get_or others (bit_and b 15) 0) v
-    → high ≡ map (λ b. get_or COLUMNS (b / 16) 0) v
-    → mask_l (map (top 7) (zip2 (λ a b. cond (differs a b) 255 0) (zip2 bit_and low high)
+-- the bits of the items that differ from 0 are the mask of the row's marked bytes
+pub marks_are : (others v found : List ℕ) → length v ≡ 16 → found ≡ map (looked_up others) v
+    → mask_l (map (top 7) (zip2 (λ a b. cond (differs a b) 255 0) found
     (0 ∷ 0 ∷ 0 ∷ 0 ∷ 0 ∷ 0 ∷ 0 ∷ 0 ∷ 0 ∷ 0 ∷ 0 ∷ 0 ∷ 0 ∷ 0 ∷ 0 ∷ 0 ∷ []))) % 2 ^ 64 ≡ mask_l
     (map (is_marked others) v)
-marks_are others v low high long p q =
-    let column : ℕ → ℕ = λ b. bit_and (get_or others (bit_and b 15) 0) (get_or COLUMNS (b / 16) 0) in
-    let marks : zip2 bit_and low high ≡ map column v = joined bit_and _ (λ b. get_or COLUMNS (b / 16) 0) v p q in
-    let size = ap length marks ∙ length-map v column ∙ long in
-    cc (bitmask_splat w8 differs (zip2 bit_and low high) 16 0 size (omega arith), map-map (λ x. differs x 0) column v)
+marks_are others v found long e =
+    let size = ap length e ∙ length-map v (looked_up others) ∙ long in
+    cc (bitmask_splat w8 differs found 16 0 size (omega arith), e, map-map (λ x. differs x 0) (looked_up others) v)
+
+-- the bitwise or of a number and of what is computed from bytes is 0 exactly if all of these are
+or_all : (f : ℕ → ℕ) (a : ℕ) (v : List ℕ)
+    → eqb (fold_l bit_or a (map f v)) 0 ≡ (eqb a 0 && list_all (λ b. not (not (eqb (f b) 0))) v)
+or_all f a [] = grind arith
+or_all f a (x ∷ v) = grind (arith, or_all f (bit_or a (f x)) v, or_zero a (f x), and_assoc)
+
+-- the bitwise or of all items is 0 exactly if no byte is marked
+pub unmarked_is : (others v found : List ℕ) → found ≡ map (looked_up others) v
+    → eqb (fold_l bit_or 0 found) 0 ≡ list_all (λ b. not (is_marked others b)) v
+unmarked_is others v found e = ap (λ l. eqb (fold_l bit_or 0 l) 0) e ∙ or_all (looked_up others) 0 v
 
 -- the bytes before a place are of a class
 pub record Looked (others bytes : List ℕ) (at : ℕ) : Type 0 where

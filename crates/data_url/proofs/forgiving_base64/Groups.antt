@@ -1,6 +1,7 @@
 -- Groups of four symbols, and texts that are fed in two parts.
 use Rattle.std.proofs.Common.{suc, zero, sym, get_or, take, drop, refl, ap, ap₂, arith, length-take}
 use Rattle.std.proofs.Common.{get_or-take, take-append-drop, append-nil, take-take, take_at}
+use Rattle.std.proofs.Common.{drop-drop, length-drop}
 use Rattle.std.proofs.Common.{length-take-le, ◌∙◌, false, min, None, take-add, append_assoc, length-append, ◌/◌}
 use Rattle.std.proofs.Common.{◌≡◌, ℕ, ◌+◌, ◌*◌, ◌≤◌, true, ◌&&◌, ◌||◌, List, [], ◌∷◌, ◌++◌, map, length, ◌-◌}
 use Rattle.std.{proofs.Math.Seq.{take-append-add}, proofs.lemmas.Bool.{and_parts}, specs.Char.{is_ascii_whitespace}}
@@ -181,6 +182,19 @@ row_leaves {rest = rest} old new bytes row n m t before room put decodes few lon
         are.1,
       );
     })
+
+-- the same, where the row begins at a place in the text, and k bytes of white space follow its m groups
+pub row_leaves_at : {held : List ℕ} (text old new bytes row : List ℕ) (at n m k : ℕ)
+    → Leaves held text (drop at text) (take n old) → n + 16 ≤ length old → take (n + 16) new ≡ take n old ++ bytes
+    → DecodesFront row bytes → at + 16 ≤ length text → row ≡ take 16 (drop at text) → m ≤ 4
+    → list_all is_symbol (take (4 * m) row) ≡ true
+    → list_all is_ascii_whitespace (take k (drop (4 * m) (drop at text))) ≡ true
+    → Leaves held text (drop (at + (4 * m + k)) text) (take (n + 3 * m) new)
+row_leaves_at text old new bytes row at n m k before room put decodes long is few all spaces =
+    let rest = drop at text in
+    rw (sym (drop-drop (4 * m + k) at text) ∙ sym (take_rest rest (4 * m + k)))
+    (row_leaves old new bytes row n m (4 * m + k) before room put decodes few
+    (row_long rest is (omega (arith, length-drop at text))) (front_symbols row rest m k is few all spaces))
 
 -- all that was read
 pub leaves_read : {held text rest held' : List ℕ} → Leaves held text rest held'

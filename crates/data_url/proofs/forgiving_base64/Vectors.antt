@@ -259,6 +259,12 @@ pub map_agree : {A : Type 0} (f g : ℕ → A) → ((b : ℕ) → b < 256 → f 
 map_agree f g h [] fits = refl
 map_agree f g h (b ∷ v) fits = grind (arith, map_agree f g h v fits.1)
 
+-- two tests that agree below 256 pass the same lists of bytes
+pub all_agree : (p q : ℕ → Bool) → ((b : ℕ) → b < 256 → p b ≡ q b) → (v : List ℕ) → Each1 (Fits w8) v
+    → list_all p v ≡ list_all q v
+all_agree p q h [] fits = refl
+all_agree p q h (b ∷ v) fits = grind (arith, all_agree p q h v fits.1)
+
 -- whether two numbers differ
 abbrev pub differs : ℕ → ℕ → Bool
 differs a b = not (eqb a b)
@@ -303,7 +309,7 @@ others_zero : (v : List ℕ) → eqb (others_mask v) 0 ≡ list_all is_symbol v
 others_zero v = mask_zero is_symbol v
 
 -- the bitwise or of two numbers is zero exactly if both are zero
-or_zero : (x y : ℕ) → eqb (bit_or x y) 0 ≡ (eqb x 0 && eqb y 0)
+pub or_zero : (x y : ℕ) → eqb (bit_or x y) 0 ≡ (eqb x 0 && eqb y 0)
 or_zero x y = grind (arith, cases_eq, ne_eqb, or_add_and, and_le_l, and_le_r)
 
 -- the bitwise or of the masks of four rows is zero exactly if the 64 bytes are symbols

@@ -16,10 +16,13 @@ in_class PlainPath = is_plain_path
 in_class Whitespace = is_http_whitespace
 in_class Unescaped = λ b. not (is_escaped b)
 
--- the lookup of a byte in the two tables, one for each half of the byte; false only for a byte of
--- the class
+-- what a byte's entries in the two tables have in common, one for each half of the byte; 0 only for a byte of the class
+abbrev pub looked_up : List ℕ → ℕ → ℕ
+looked_up others b = bit_and (slice_index others (bit_and b 15)) (slice_index COLUMNS (b / 16))
+
+-- false only for a byte of the class
 abbrev pub is_marked : List ℕ → ℕ → Bool
-is_marked others b = not (bit_and (slice_index others (bit_and b 15)) (slice_index COLUMNS (b / 16)) == 0)
+is_marked others b = not (looked_up others b == 0)
 
 -- the first n bytes are not marked, so they are of the class
 abbrev pub AreOf : List ℕ → List ℕ → ℕ → Type 0

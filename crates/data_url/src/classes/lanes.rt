@@ -1,8 +1,9 @@
 //! Classes of bytes, sixteen bytes at a time.
 
-ghost use Rattle.std.specs.Prelude.{◌≡◌, ◌+◌, ◌≤◌, drop, length, map, take};
+ghost use Rattle.std.specs.Prelude.{◌≡◌, ◌+◌, ◌≤◌, drop, length, map, not, take};
+ghost use Rattle.std.specs.List.{list_all};
 ghost use Rattle.std.specs.Simd.Lanes.{mask_l};
-ghost use Rattle.data_url.specs.Steps.Classes.{AreOf, is_marked};
+ghost use Rattle.data_url.specs.Steps.Classes.{AreOf, is_marked, looked_up};
 
 use std::simd::prelude::*;
 
@@ -22,14 +23,31 @@ pub(crate) fn row(text: &[u8], at: usize) -> u8x16
     u8x16::from_slice(&text[at..])
 }
 
+/// Looks up both halves of each byte of a row. Returns the bits that their entries have in common: none only where the
+/// byte is in the class.
+#[inline(always)]
+fn looked_up(others: [u8; 16], row: u8x16) -> u8x16
+    ensures { result ≡ map (looked_up others) row }
+{
+    let low = u8x16::from_array(others).swizzle_dyn(row & u8x16::splat(15));
+    let high = u8x16::from_array(COLUMNS).swizzle_dyn(row >> u8x16::splat(4));
+    low & high
+}
+
 /// Returns a bit for each byte of a row, which is set where the byte may be outside a class.
 #[inline(always)]
 pub(crate) fn marks(others: [u8; 16], row: u8x16) -> u64
     ensures { result ≡ mask_l (map (is_marked others) row) }
 {
-    let low = u8x16::from_array(others).swizzle_dyn(row & u8x16::splat(15));
-    let high = u8x16::from_array(COLUMNS).swizzle_dyn(row >> u8x16::splat(4));
-    (low & high).simd_ne(u8x16::splat(0)).to_bitmask()
+    looked_up(others, row).simd_ne(u8x16::splat(0)).to_bitmask()
+}
+
+/// Whether no byte of a row is marked. As a test for a branch, this takes fewer instructions than the bits of `marks`.
+#[inline(always)]
+pub(crate) fn is_unmarked(others: [u8; 16], row: u8x16) -> bool
+    ensures { result ≡ list_all (λ b. not (is_marked others b)) row }
+{
+    looked_up(others, row).reduce_or() == 0
 }
 
 /// Returns the length of some whole rows at the start whose bytes are all in a class.

@@ -7,7 +7,7 @@ ghost use Rattle.std.specs.Simd.Lanes.{mask_l};
 ghost use Rattle.data_url.specs.Base64.{group_bytes, group_number, is_symbol, symbol_value};
 ghost use Rattle.data_url.specs.Steps.{Groups.{is_symbol_or_space}, Lanes.{DecodesFront, numbers, value_of}};
 
-use crate::classes::lanes::marks;
+use crate::classes::lanes::{is_unmarked, marks};
 use std::simd::prelude::*;
 
 /// The value of each symbol, by its byte, and 64 for other bytes.
@@ -74,6 +74,14 @@ pub(crate) fn others(bytes: u8x16) -> u64
     ensures { result ≡ mask_l (map (λ b. not (is_symbol b)) bytes) }
 {
     marks(SYMBOLS, bytes)
+}
+
+/// Whether all bytes of a row are symbols.
+#[inline(always)]
+pub(crate) fn is_of_symbols(bytes: u8x16) -> bool
+    ensures { result ≡ list_all is_symbol bytes }
+{
+    is_unmarked(SYMBOLS, bytes)
 }
 
 /// Whether all bytes of a row are symbols or white space.

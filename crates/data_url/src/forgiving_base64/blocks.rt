@@ -20,14 +20,13 @@ pub(crate) fn is_whole(text: &[u8]) -> bool
     upper | lower == 0
 }
 
-/// Returns how many whole groups of symbols a row begins with. The most frequent numbers come first.
+/// Returns how many whole groups of symbols a row begins with, up to three. The most frequent numbers come first.
 #[inline(always)]
 pub(crate) fn groups_ahead(bytes: u8x16) -> usize
-    ensures few { result ≤ 4 }
+    ensures few { result ≤ 3 }
     ensures symbols { IsTrue (list_all is_symbol (take (4 * result) bytes)) }
 {
     match others(bytes) {
-        0 => 4,
         mask if mask % 16 != 0 => 0,
         mask if mask % 4096 == 0 => 3,
         mask if mask % 256 == 0 => 2,

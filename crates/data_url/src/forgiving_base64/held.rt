@@ -1,8 +1,9 @@
 //! The bytes of whole groups of a text of base64 (RFC 4648, section 4) that the closure was not yet called with.
 
 ghost use Rattle.std.specs.Prelude.{◌≡◌, ◌%◌, ◌+◌, ◌≤◌, ◌<◌, ◌++◌, [], drop, length, take};
+ghost use Rattle.std.specs.{Char.{is_ascii_whitespace}, List.{prefix_len}};
 
-use super::alphabet::{decode_row, group_of, is_symbol};
+use super::alphabet::{decode_row, group_of, is_of_symbols, is_symbol};
 use super::blocks::{groups_ahead, put};
 use super::spaced::without_spaces;
 use crate::classes::lanes::row;
@@ -19,6 +20,22 @@ pub(crate) struct HeldGroups {
     ghost within: { len < 204 },
     ghost whole: { len % 3 ≡ 0 },
     ghost sized: { length bytes ≡ 208 },
+}
+
+/// Returns how many bytes of white space a text begins with. The most frequent ends of lines come first, and a line
+/// that is indented after them.
+#[inline(always)]
+fn spaces_ahead(text: &[u8]) -> usize
+    requires { 3 ≤ length text.now }
+    ensures within { result ≤ length text.now }
+    ensures spaces { result ≡ prefix_len is_ascii_whitespace text.now }
+{
+    match (text[0], text[1]) {
+        (b'\n', second) if second > b' ' => 1,
+        (b'\r', b'\n') if text[2] > b' ' => 2,
+        (b'\n', b' ') => text.len() - text[2..].trim_ascii_start().len(),
+        _ => text.len() - text.trim_ascii_start().len(),
+    }
 }
 
 impl HeldGroups {
@@ -100,26 +117,34 @@ impl HeldGroups {
         ensures within { result ≤ length text.now }
         ensures fills { Fills (held_bytes self.old) (take result text.now) (held_bytes self.new) }
     {
-        let mut rest = text;
+        let rows_end = text.len().saturating_sub(15);
         let mut len = self.len;
-        while rest.len() >= 16 && len < FULL {
-            let row = row(rest, 0);
+        // Where 64 groups are held, or up to three bytes before: 85 / 64 is a little less than 4 / 3.
+        let mut full_at = (FULL - len) * 85 / 64;
+        let mut end = rows_end.min(full_at);
+        let mut at = 0;
+        while at < end {
+            let row = row(text, at);
+            let is_clean = is_of_symbols(row);
             put(&mut self.bytes, len, decode_row(row));
-            let ahead = groups_ahead(row);
-            if ahead == 4 {
+            if is_clean {
                 len += 12;
-                rest = &rest[16..];
+                at += 16;
             } else {
-                let after = rest[4 * ahead..].trim_ascii_start();
-                if after.len() == rest.len() {
+                let ahead = groups_ahead(row);
+                let spaces = spaces_ahead(&text[at + 4 * ahead..]);
+                let taken = 4 * ahead + spaces;
+                if taken == 0 {
                     break;
                 }
                 len += 3 * ahead;
-                rest = after;
+                at += taken;
+                full_at += spaces;
+                end = rows_end.min(full_at);
             }
         }
         self.len = len;
-        text.len() - rest.len()
+        at
     }
 
     /// Adds whole groups that a text begins with, without the white space between their symbols, as long as there is a

@@ -1,55 +1,80 @@
-use Rattle.std.proofs.Common.{◌*◌, ◌+◌, ◌-◌, ◌∙◌, ◌≡◌, ap, arith, drop, drop-drop, length, refl, sym, take}
-use Rattle.std.{proofs.lemmas.List.{take_rest}, proofs.lemmas.Str.Ascii.{trim_ascii_start_is}}
-use Rattle.std.specs.{Char.{is_ascii_whitespace}, List.{prefix_len}}
-use Rattle.data_url.proofs.forgiving_base64.Groups.{front_symbols, leaves_all, leaves_read, put_keeps, row_leaves, row_long, spaces_front}
+use Rattle.std.proofs.Common.{◌*◌, ◌+◌, ◌-◌, ◌∙◌, ◌≡◌, ap, arith, drop, drop-drop, length, length-drop, refl, sym, take}
+use Rattle.std.proofs.Common.{take_all}
+use Rattle.std.{proofs.lemmas.List.{take_rest}, specs.{Char.{is_ascii_whitespace}, List.{list_all, prefix_len}}}
+use Rattle.data_url.specs.Base64.{is_symbol}
+use Rattle.data_url.proofs.forgiving_base64.Groups.{leaves_all, leaves_read, put_keeps, row_leaves_at, row_long, spaces_front}
 use Rattle.data_url.proofs.forgiving_base64.held.HeldGroups.fill_rows.Goals as goal
 
-pub loop-rest-init : goal.loop-rest-init
-loop-rest-init c = grind (arith, leaves_all)
-
-pub loop-rest-preserved-then-ahead-eq4 : goal.loop-rest-preserved-then-ahead-eq4
-loop-rest-preserved-then-ahead-eq4 c =
-    let l = c.loop-rest in
-    let all = rw c.if-ahead-eq4.true at c.groups_ahead-ahead.ensures.symbols in
+pub loop-at-init : goal.loop-at-init
+loop-at-init c =
+    let ends = c.min-end.ensures in
     record {
+      within = omega arith;
+      few = omega (arith, c.requires.room);
+      whole = c.args.self.now.whole;
+      full = omega (arith, c.requires.room, c.args.self.now.whole);
+      ends = (omega (arith, ends, c.saturating_sub-rows_end.ensures), omega (arith, ends));
+      leaves = leaves_all _ _;
+    }
+
+pub loop-at-preserved-then-is_clean : goal.loop-at-preserved-then-is_clean
+loop-at-preserved-then-is_clean c =
+    let l = c.loop-at in
+    let text = c.args.text.now in
+    let row = c.row-row.result in
+    let long = row_long (drop l.at text) c.row-row.ensures (omega (arith, length-drop l.at text, l.invariant.ends.0)) in
+    let all = sym c.is_of_symbols-is_clean.ensures ∙ c.if-is_clean.true in
+    record {
+      within = omega (arith, l.invariant.ends.0);
       few = omega arith;
       whole = omega (arith, l.invariant.whole);
-      leaves = row_leaves l.self.bytes _ _ _ l.len 4 16 l.invariant.leaves (omega (arith, l.self.sized)) c.put.ensures
-          c.decode_row.ensures.bytes (omega arith) (row_long _ c.row-row.ensures (omega arith))
-          (front_symbols _ l.rest.now 4 0 c.row-row.ensures (omega arith) all refl);
+      full = omega (arith, l.invariant.full);
+      ends = l.invariant.ends;
+      leaves = row_leaves_at text l.self.bytes _ _ row l.at l.len 4 0 l.invariant.leaves (omega (arith, l.self.sized))
+          c.put.ensures c.decode_row.ensures.bytes (omega (arith, l.invariant.ends.0)) c.row-row.ensures (omega arith)
+          (ap (list_all is_symbol) (take_all 16 row (omega (arith, long))) ∙ all) refl;
     }
 
-pub loop-rest-preserved : goal.loop-rest-preserved
-loop-rest-preserved c =
-    let l = c.loop-rest in
+pub loop-at-preserved : goal.loop-at-preserved
+loop-at-preserved c =
+    let l = c.loop-at in
+    let text = c.args.text.now in
     let m = c.groups_ahead-ahead.result in
     let ahead = c.groups_ahead-ahead.ensures in
-    let rest = l.rest.now in
-    let k = prefix_len is_ascii_whitespace (drop (4 * m) rest) in
-    let after : c.trim_ascii_start-after.result.now ≡ take (length rest - (4 * m + k)) (drop (4 * m + k) rest) =
-    trim_ascii_start_is _ _ c.trim_ascii_start-after.ensures.value
-    ∙ ap (λ s. drop (prefix_len is_ascii_whitespace s) s) (take_rest rest (4 * m))
-    ∙ drop-drop k (4 * m) rest ∙ sym (take_rest rest (4 * m + k)) in
+    let k = c.spaces_ahead-spaces.result in
+    let spaces = c.spaces_ahead-spaces.ensures in
+    let after = drop (4 * m) (drop l.at text) in
+    let front : k ≡ prefix_len is_ascii_whitespace after = spaces.spaces
+    ∙ ap (prefix_len is_ascii_whitespace) (take_rest text (l.at + 4 * m) ∙ sym (drop-drop (4 * m) l.at text)) in
+    let ends = c.min-end-else-is_clean.ensures in
     record {
-      few = omega (arith, ahead.few);
+      within = omega (
+        arith,
+        spaces.within,
+        ap length (take_rest text (l.at + 4 * m)),
+        length-drop (l.at + 4 * m) text,
+        ahead.few,
+        l.invariant.ends.0,
+      );
+      few = omega arith;
       whole = omega (arith, l.invariant.whole);
-      leaves = rw after (row_leaves l.self.bytes _ _ _ l.len m (4 * m + k) l.invariant.leaves (omega (arith, l.self.sized))
-          c.put.ensures c.decode_row.ensures.bytes ahead.few (row_long _ c.row-row.ensures (omega arith))
-          (front_symbols _ rest m k c.row-row.ensures ahead.few ahead.symbols (spaces_front (drop (4 * m) rest))));
+      full = omega (arith, l.invariant.full);
+      ends = (omega (arith, ends, c.saturating_sub-rows_end.ensures), omega (arith, ends));
+      leaves = row_leaves_at text l.self.bytes _ _ _ l.at l.len m k l.invariant.leaves (omega (arith, l.self.sized))
+          c.put.ensures c.decode_row.ensures.bytes (omega (arith, l.invariant.ends.0)) c.row-row.ensures
+          (omega (arith, ahead.few)) ahead.symbols (rw front (spaces_front after));
     }
-
-pub returns-clause-within : goal.returns-clause-within
-returns-clause-within c = omega (arith, (leaves_read c.loop-rest.invariant.leaves).0)
 
 pub returns-clause-fills : goal.returns-clause-fills
 returns-clause-fills c =
-    let old = c.loop-rest.self.bytes in
-    let n = c.loop-rest.len in
-    let same : take n c.loop-rest-test.self.1.0 ≡ take n old = elim c.loop-rest-test.branch [
-      | goal.then-loop-rest-test+else-len-lt-FULL w ↦ grind arith
-      | goal.else-loop-rest-test w ↦ grind arith
-      | goal.then-loop-rest-test+then-len-lt-FULL+else-ahead-eq4+then-after-rest w ↦
-          rw w.self-is (put_keeps old w.put.new.bytes w.decode_row.result n
-          (omega (arith, c.loop-rest.self.sized)) w.put.ensures)
+    let l = c.loop-at in
+    let text = c.args.text.now in
+    let old = l.self.bytes in
+    let same : take l.len c.loop-at-test.self.1.0 ≡ take l.len old = elim c.loop-at-test.branch [
+      | goal.else-loop-at-test w ↦ grind arith
+      | goal.then-loop-at-test+else-is_clean+then-taken-eq0 w ↦
+          rw w.self-is (put_keeps old w.put.new.bytes w.decode_row.result l.len
+          (omega (arith, l.self.sized)) w.put.ensures)
     ] in
-    rw same (leaves_read c.loop-rest.invariant.leaves).1
+    let read : length text - length (drop l.at text) ≡ l.at = omega (arith, length-drop l.at text, l.invariant.within) in
+    rw (same, sym read) (leaves_read l.invariant.leaves).1
