@@ -12,13 +12,19 @@ use crate::escapes::{BUFFER_LEN, Pieces};
 use crate::forgiving_base64::{DecodeError, Decoder};
 
 /// Calls a closure with the prefix of a body and the pieces after it, until it returns an error. Returns this error, or the
-/// place in the text where the body ends.
-fn decode_pieces<F, E>(prefix: &[u8], mut pieces: Pieces<'_>, take: &mut F) -> Result<usize, E>
+/// place in the text where the body ends. If the body is base64, the pieces up to its first escape keep their tabs and newlines,
+/// which the decoder skips faster than they are taken out.
+fn decode_pieces<F, E>(
+    prefix: &[u8],
+    mut pieces: Pieces<'_>,
+    base64: bool,
+    take: &mut F,
+) -> Result<usize, E>
 where
     F: FnMut(&[u8]) -> Result<(), E>,
     requires callable { IsCallableUntilError F.FnMut take.old }
     requires prefix { IsBodyPrefix pieces.text prefix.now pieces }
-    ensures { TakesBody (CalledAt F.FnMut) take.old pieces.entry.text result take.new }
+    ensures { TakesBody base64 (CalledAt F.FnMut) take.old pieces.entry.text result take.new }
 {
     if !prefix.is_empty() {
         take(prefix)?;
@@ -26,12 +32,14 @@ where
     if pieces.has_ended() {
         return Ok(pieces.end());
     }
+    let mut spaced = base64;
     let mut room = [0; BUFFER_LEN];
     'chunks: while !pieces.has_ended() {
-        let Some(bytes) = pieces.next_bytes(&mut room) else {
+        let Some(bytes) = pieces.next_chunk(&mut room, spaced) else {
             break 'chunks;
         };
         take(bytes)?;
+        spaced = spaced && !pieces.is_at_escape();
     }
     Ok(pieces.end())
 }
@@ -52,7 +60,7 @@ where
         (outcome base64 (plain_body pieces.entry.text)) (IsBodyEnd pieces.entry.text) result.0 result.1 }
 {
     if !base64 {
-        let place = decode_pieces(prefix, pieces, &mut write);
+        let place = decode_pieces(prefix, pieces, base64, &mut write);
         return (place.map_err(DecodeError::WriteError), write);
     }
     let mut decoder = Decoder::new(write);
@@ -60,7 +68,7 @@ where
         requires callable { F.IsAlwaysCallable (state_of decoder).closure }
         requires going { (state_of decoder).failed ≡ false }
     { decoder.feed(bytes) };
-    match decode_pieces(prefix, pieces, &mut feed) {
+    match decode_pieces(prefix, pieces, base64, &mut feed) {
         Ok(place) => {
             let (ended, write) = decoder.finish_with();
             (ended.map(|()| place), write)

@@ -1,11 +1,11 @@
 //! The body of a data: URL in pieces: slices of the input, and the values of escapes (URL Standard, section 1.3,
 //! percent-decode). Nothing is allocated.
 
-ghost use Rattle.std.specs.Prelude.{◌≡◌, ◌+◌, ◌*◌, ◌≤◌, ◌++◌, [], IfNone, IfSome, IsTrue, None, length, true};
+ghost use Rattle.std.specs.Prelude.{◌≡◌, ◌+◌, ◌*◌, ◌≤◌, ◌++◌, [], IfNone, IfSome, IsTrue, None, false, length, true};
 ghost use Rattle.std.specs.Option.{option_map};
 ghost use Rattle.data_url.specs.Pieces.{IsPiece, walk_at_start, bytes_of_next};
 ghost use Rattle.data_url.specs.Url.{after, number_sign};
-ghost use Rattle.data_url.specs.Steps.Chunks.{GivesBytes, IsBodyPrefix};
+ghost use Rattle.data_url.specs.Steps.Chunks.{GivesBytes, GivesSpaced, IsBodyPrefix};
 ghost use Rattle.data_url.specs.Steps.Tail.{IsBodyEnd};
 
 mod cursor;
@@ -110,12 +110,48 @@ impl<'a> Pieces<'a> {
     pub(crate) fn next_bytes<'r>(&mut self, room: &'r mut [u8; BUFFER_LEN]) -> Option<&'r [u8]>
     where
         'a: 'r,
-        ensures { GivesBytes self.old result self.new }
+        ensures { GivesBytes false self.old result self.new }
     {
         let mut cursor = replace(&mut self.cursor, Cursor::new(""));
         let bytes = cursor.next_bytes(room);
         self.cursor = cursor;
         bytes
+    }
+
+    /// Returns the next stretch of a body with the tabs and newlines in it, or None at an escape or at the end of the body.
+    /// The walk is moved out and back, so that it can stay in registers.
+    pub(crate) fn next_spaced(&mut self) -> Option<&'a [u8]>
+        ensures { GivesSpaced self.old result self.new }
+    {
+        let mut cursor = replace(&mut self.cursor, Cursor::new(""));
+        let stretch = cursor.next_spaced();
+        self.cursor = cursor;
+        stretch
+    }
+
+    /// Returns the next bytes of a body, or None if it has ended. If they are to be `spaced`, they may have tabs and newlines between
+    /// them.
+    #[inline(always)]
+    pub(crate) fn next_chunk<'r>(
+        &mut self,
+        room: &'r mut [u8; BUFFER_LEN],
+        spaced: bool,
+    ) -> Option<&'r [u8]>
+    where
+        'a: 'r,
+        ensures { GivesBytes spaced self.old result self.new }
+    {
+        if spaced {
+            if let Some(stretch) = self.next_spaced() {
+                return Some(stretch);
+            }
+        }
+        self.next_bytes(room)
+    }
+
+    /// Returns whether the walk is known to be at an escape.
+    pub(crate) fn is_at_escape(&self) -> bool {
+        matches!(self.cursor.ahead, Ahead::Escape(..))
     }
 
     /// Returns whether the walk is known to be at the end of the body.

@@ -1,18 +1,20 @@
 -- A closure or a decoder that gets a body piece by piece. For `decode_pieces`, `decode_body` and its callers.
-use Rattle.std.proofs.Common.{IsErr, Result, Ok, Err, refl, sym, ap, ◌∙◌, append_assoc, arith, length-append, suc, Bool}
-use Rattle.std.{proofs.Common.{MatchBool}, proofs.lemmas.List.{nil_from_length, length-map}, specs.Char.{digit_value}}
-use Rattle.std.proofs.Common.{Some, false, cond, ◌*◌, min, length-drop, length-take, MatchOption, MatchResult}
+use Rattle.std.proofs.Common.{IsErr, Result, Ok, Err, refl, sym, ap, ◌∙◌, append_assoc, arith, length-append, Bool}
+use Rattle.std.{proofs.Common.{MatchBool}, proofs.lemmas.List.{nil_from_length, length-map}}
+use Rattle.std.proofs.Common.{Some, false, cond, min, length-drop, length-take, MatchOption, MatchResult}
 use Rattle.std.proofs.Common.{true, append-nil, ◌<◌, ◌≡◌, ℕ, ◌+◌, ◌≤◌, List, [], ◌∷◌, ◌++◌, Bor, length, Option, None}
-use Rattle.std.proofs.lemmas.List.Sums.{count_by-le-length, length-filter}
 use Rattle.std.{specs.Fn.{CalledAt, Mut, always_mut}, specs.Option.{option_or}, specs.Result.{result_err}}
+use Rattle.std.proofs.lemmas.List.Elements.{filter-append}
 use Rattle.data_url.specs.Base64.{decoded, complete_bytes, kind_of, after_groups, groups, rest_bytes, values}
+use Rattle.data_url.specs.Base64.{without_whitespace}
+use Rattle.data_url.proofs.forgiving_base64.Padding.{decoded_alike, done_alike, kind_alike, valid_alike}
 use Rattle.data_url.specs.{DataUrl.{Decodes, HandsOut, IsUrlOf, url_body, url_tail}, Steps.Tail.{IsBodyEnd}}
 use Rattle.data_url.specs.{Decoder.{Feeds, Finishes, State, start}, Run.{Call, IsRun, joined_pieces, refusal, IsPrefix}}
 use Rattle.data_url.specs.{Errors.{IsRefused}, Fetch.{Good, outcome_bytes, plain_body, Bad, outcome, Outcome, tail_of}}
-use Rattle.data_url.specs.{Percent.{begins_with_escape, percent_decoding}, Pieces.{Walk}, declared.DataUrl.{DataUrl}}
-use Rattle.data_url.specs.Steps.Chunks.{IsBodyPrefix, GivesBytes, IsCallableUntilError, Takes, TakesBody}
+use Rattle.data_url.specs.{Pieces.{Walk}, declared.DataUrl.{DataUrl}}
+use Rattle.data_url.specs.Steps.Chunks.{IsAlike, IsBodyOf, IsBodyPrefix, GivesBytes, IsCallableUntilError, Takes, TakesBody}
 use Rattle.data_url.specs.{Steps.Whole.{DecodesText}, declared.forgiving_base64.DecodeError.{DecodeError}}
-use Rattle.data_url.specs.Url.{before, without_tabs_and_newlines, front, after, trimmed_text}
+use Rattle.data_url.specs.Url.{after, trimmed_text}
 use Rattle.data_url.specs.declared.forgiving_base64.DecodeError.TheVariants.{WriteError, InvalidBase64}
 use Rattle.data_url.proofs.forgiving_base64.Groups.{groups_length, filter_length}
 use Rattle.data_url.proofs.forgiving_base64.Steps.{feeds_err, feeds_then}
@@ -20,11 +22,37 @@ use Rattle.data_url.proofs.forgiving_base64.WholeTexts.{decodes_finished, decode
 use Rattle.data_url.proofs.{forgiving_base64.WholeTexts.{run_reads}, runs.Runs.{run-append}, texts.Bytes.{is_cut}}
 use Rattle.data_url.proofs.runs.Runs.{prefix_after, joined_pieces-append, match_at, match_at_none, refusal-append}
 use denote.Param.Always.{mut_next}
+pub use Rattle.data_url.proofs.escapes.Reading.{body_shorter}
 
 -- if the next of a walk is `Some bytes`, these are the next bytes of its body
-pub takes_next : {w w' : Walk} {given : Option (Bor (List ℕ))} {bytes : Bor (List ℕ)} → GivesBytes w given w'
-    → given ≡ Some bytes → Takes w bytes.now w'
-takes_next {w} {w'} h e = grind arith
+pub takes_next : (spaced : Bool) {w w' : Walk} {given : Option (Bor (List ℕ))} {bytes : Bor (List ℕ)}
+    → GivesBytes spaced w given w' → given ≡ Some bytes → Takes spaced w bytes.now w'
+takes_next spaced {w} {w'} h e = grind arith
+
+-- equal texts are alike
+alike_same : (spaced : Bool) (x y : List ℕ) → x ≡ y → IsAlike spaced x y
+alike_same false x y e = e
+alike_same true x y e = ap without_whitespace e
+
+-- bytes that are taken with no white space between them are also taken if it does not count
+pub takes_weaker : (spaced base64 : Bool) {w w' : Walk} {bytes : List ℕ} → (spaced ≡ true → base64 ≡ true)
+    → Takes spaced w bytes w' → Takes base64 w bytes w'
+takes_weaker true base64 h t = rw (h refl) t
+takes_weaker false base64 h t = record {
+  text_stays = t.text_stays;
+  rest_is = alike_same base64 _ _ t.rest_is;
+  place = t.place;
+  within = t.within;
+  some = t.some;
+  short = t.short;
+}
+
+-- texts that are alike, one after other, are alike
+alike_more : (spaced : Bool) (all a b rest rest' : List ℕ) → IsAlike spaced all (a ++ rest)
+    → IsAlike spaced rest (b ++ rest') → IsAlike spaced all ((a ++ b) ++ rest')
+unfolding without_whitespace
+alike_more false all a b rest rest' h k = cc (append_assoc a b rest')
+alike_more true all a b rest rest' h k = grind (arith, filter-append, append_assoc)
 
 -- an option, or else `None`, is the option
 or_none : {A : Type 0} (o : Option A) → option_or o None ≡ o
@@ -33,22 +61,28 @@ or_none (Some x) = refl
 
 module _ {F E : Type 0} (step : F → List ℕ → Result (Unit {0}) E → F → Type 0) where
   -- the closure was called with the body up to the place of the walk, and its last call returned this
-  pub record Going (f : F) (text : List ℕ) (w : Walk) (answer : Result (Unit {0}) E) (g : F) : Type 0 where
+  pub record Going (spaced : Bool) (f : F) (text : List ℕ) (w : Walk) (answer : Result (Unit {0}) E) (g : F)
+      : Type 0 where
     pub run : List (Call F E)
     pub ran : IsRun step f run g
     pub answered : refusal run ≡ result_err answer
     pub text_is : w.text ≡ text
     pub place : w.place ≤ length text
     pub calls : length run ≤ w.place
-    pub body : plain_body text ≡ joined_pieces run ++ w.rest
+    pub few : length (joined_pieces run) ≤ w.place
+    pub short : w.place + length w.rest ≤ length text
+    pub body : IsAlike spaced (plain_body text) (joined_pieces run ++ w.rest)
 
   -- if the walk takes bytes, and the closure is called with them, the run with that call is that of the walk after it
-  pub going_more : {f g h : F} {text bytes : List ℕ} {w w' : Walk} (answer : Result (Unit {0}) E)
-      → Going f text w (Ok tt) g → Takes w bytes w' → step g bytes answer h → Going f text w' answer h
-  going_more {f} {g} {h} {text} {bytes} {w} {w'} answer k t s =
+  pub going_more : (spaced : Bool) {f g h : F} {text bytes : List ℕ} {w w' : Walk} (answer : Result (Unit {0}) E)
+      → Going spaced f text w (Ok tt) g → Takes spaced w bytes w' → step g bytes answer h
+      → Going spaced f text w' answer h
+  going_more spaced {f} {g} {h} {text} {bytes} {w} {w'} answer k t s =
       let call : List (Call F E) = record { piece = bytes; answer = answer; after = h } ∷ [] in
       let longer = length-append k.run call in
       let same = t.text_stays ∙ k.text_is in
+      let joined : joined_pieces (k.run ++ call) ≡ joined_pieces k.run ++ bytes =
+      joined_pieces-append k.run call ∙ ap (λ x. joined_pieces k.run ++ x) (append-nil bytes) in
       record {
         run = k.run ++ call;
         ran = run-append step k.run call f g h k.ran k.answered (s, λ e. refl, refl);
@@ -56,60 +90,54 @@ module _ {F E : Type 0} (step : F → List ℕ → Result (Unit {0}) E → F →
         text_is = same;
         place = omega (arith, t.within, ap length same);
         calls = grind arith;
-        body = cc (append_assoc (joined_pieces k.run) bytes w'.rest, append-nil bytes, joined_pieces-append k.run call);
+        few = omega (arith, k.few, t.place, ap length joined, length-append (joined_pieces k.run) bytes);
+        short = omega (arith, t.short, ap length same);
+        body = rw joined (alike_more spaced (plain_body text) (joined_pieces k.run) bytes w.rest w'.rest k.body t.rest_is);
       }
 
   -- the closure was called with the prefix of the body
-  pub going_prefix : {f g : F} {text bytes : List ℕ} {w : Walk} (answer : Result (Unit {0}) E)
-      → IsBodyPrefix text bytes w → 0 < length bytes → step f bytes answer g → Going f text w answer g
-  going_prefix {g = g} {bytes = bytes} answer i some s = record {
+  pub going_prefix : (spaced : Bool) {f g : F} {text bytes : List ℕ} {w : Walk} (answer : Result (Unit {0}) E)
+      → IsBodyPrefix text bytes w → 0 < length bytes → step f bytes answer g → Going spaced f text w answer g
+  going_prefix spaced {g = g} {bytes = bytes} answer i some s = record {
     run = record { piece = bytes; answer = answer; after = g } ∷ [];
     ran = (s, λ e. refl, refl);
     answered = or_none (result_err answer);
     text_is = i.text_is;
     place = i.within;
     calls = omega (arith, i.few, some);
-    body = cc (i.body_is, append-nil bytes);
+    few = omega (arith, i.few, ap length (append-nil bytes));
+    short = i.short;
+    body = alike_same spaced _ _ (cc (i.body_is, append-nil bytes));
   }
 
   -- the prefix of the body is empty, and the closure was not called
-  pub going_none : {f : F} {text : List ℕ} (bytes : List ℕ) {w : Walk} → IsBodyPrefix text bytes w → length bytes ≡ 0
-      → Going f text w (Ok tt) f
-  going_none {f} bytes i none = grind (arith, nil_from_length)
+  pub going_none : (spaced : Bool) {f : F} {text : List ℕ} (bytes : List ℕ) {w : Walk} → IsBodyPrefix text bytes w
+      → length bytes ≡ 0 → Going spaced f text w (Ok tt) f
+  going_none spaced {f} bytes i none = grind (arith, nil_from_length, alike_same)
 
   -- at the end of the body, the closure was called with the whole of it
-  pub took_all : {f g : F} {text : List ℕ} {w : Walk} {place : ℕ} → Going f text w (Ok tt) g → w.rest ≡ []
-      → IsBodyEnd w.text place → TakesBody step f text (Ok place) g
-  took_all {f} {g} {text} {w} {place} k over end = grind (arith, append-nil)
+  pub took_all : (spaced : Bool) {f g : F} {text : List ℕ} {w : Walk} {place : ℕ} → Going spaced f text w (Ok tt) g
+      → w.rest ≡ [] → IsBodyEnd w.text place → TakesBody spaced step f text (Ok place) g
+  took_all spaced {f} {g} {text} {w} {place} k over end =
+      let whole : joined_pieces k.run ++ w.rest ≡ joined_pieces k.run = cc (append-nil (joined_pieces k.run)) in
+      let body = rw whole at k.body in grind arith
 
   -- if the closure returned an error, it took the body up to that error
-  pub took_refused : {f g : F} {text : List ℕ} {w : Walk} {e : E} → Going f text w (Err e) g
-      → TakesBody step f text (Err e) g
-  took_refused {f} {g} {text} {w} {e} k = grind arith
-
--- the text before the first c is not longer than the whole text
-before_shorter : (c : ℕ) (s : List ℕ) → length (before c s) ≤ length s
-unfolding before
-before_shorter c [] = omega arith
-before_shorter c (b ∷ s) = grind (arith, before_shorter c s)
-
--- a percent-decoded text is not longer than the text
-percent_shorter : (s : List ℕ) → length (percent_decoding s) ≤ length s
-unfolding percent_decoding
-percent_shorter [] = omega arith
-percent_shorter (a ∷ []) = omega arith
-percent_shorter (a ∷ b ∷ []) = omega arith
-percent_shorter (a ∷ b ∷ c ∷ s) =
-    let h = percent_shorter s in
-    let k = percent_shorter (b ∷ c ∷ s) in
-    elim (begins_with_escape (a ∷ b ∷ c ∷ s)) as
-    (λ v. length (cond v ((16 * digit_value b + digit_value c) ∷ percent_decoding s)
-    (a ∷ percent_decoding (b ∷ c ∷ s))) ≤ suc (suc (suc (length s)))) [ true ↦ omega arith | false ↦ omega arith ]
-
--- the body of a tail is not longer than the tail
-pub body_shorter : (tail : List ℕ) → length (plain_body tail) ≤ length tail
-unfolding plain_body front without_tabs_and_newlines
-body_shorter tail = grind (arith, percent_shorter, before_shorter, length-filter, count_by-le-length)
+  pub took_refused : (spaced : Bool) {f g : F} {text : List ℕ} {w : Walk} {e : E} → Going spaced f text w (Err e) g
+      → TakesBody spaced step f text (Err e) g
+  took_refused spaced {f} {g} {text} {w} {e} k = record {
+    run = k.run;
+    ran = k.ran;
+    calls = omega (arith, k.calls, k.place);
+    gave = (
+      k.answered,
+      w.rest,
+      record {
+        few = omega (arith, k.few, k.short, length-append (joined_pieces k.run) w.rest);
+        alike = k.body;
+      },
+    );
+  }
 
 -- the result, with the place as its value if it is `Ok`
 abbrev at_place : {E : Type 0} → ℕ → Result (Unit {0}) (DecodeError E) → Result ℕ (DecodeError E)
@@ -121,6 +149,11 @@ mapped : {E : Type 0} (place : ℕ) (p : Result (Unit {0}) (DecodeError E)) (q :
     → MatchResult p (λ x. q ≡ Ok place) (λ e. q ≡ Err e) → at_place place p ≡ q
 mapped place (Ok x) q m = sym m
 mapped place (Err e) q m = sym m
+
+-- texts that are equal without white space have the same outcome, if they are base64
+outcome_alike : (x y : List ℕ) → without_whitespace x ≡ without_whitespace y → outcome true x ≡ outcome true y
+unfolding outcome
+outcome_alike x y e = cc (valid_alike x y e, decoded_alike x y e, done_alike x y e, kind_alike x y e)
 
 module _ {F E : Type 0} (step : F → List ℕ → Result (Unit {0}) E → F → Type 0) where
   -- a text that was decoded as a whole, or refused by the closure, gives a good body if it is valid, or a bad one
@@ -136,12 +169,19 @@ module _ {F E : Type 0} (step : F → List ℕ → Result (Unit {0}) E → F →
   gives u bytes place good r (Some e) true g h = grind arith
   gives u bytes place good r (Some e) false g h = grind arith
 
+  -- the outcome of a text
+  outcome_whole : {f g : F} {text u : List ℕ} (place : ℕ) (r : Result (Unit {0}) (DecodeError E))
+      → length u ≤ length text → DecodesText step f u r g → (r ≡ Ok tt → IsBodyEnd text place)
+      → Decodes step f (length text + 1) (outcome true u) (IsBodyEnd text) (at_place place r) g
+  unfolding outcome
+  outcome_whole {f} {g} {text} {u} place r few d b = grind arith
+
   -- the outcome of the whole body
-  outcome_of : {f g : F} {text u : List ℕ} (place : ℕ) (r : Result (Unit {0}) (DecodeError E)) → u ≡ plain_body text
+  outcome_of : {f g : F} {text u : List ℕ} (place : ℕ) (r : Result (Unit {0}) (DecodeError E)) → IsBodyOf true text u
       → DecodesText step f u r g → (r ≡ Ok tt → IsBodyEnd text place)
       → Decodes step f (length text + 1) (outcome true (plain_body text)) (IsBodyEnd text) (at_place place r) g
-  unfolding outcome
-  outcome_of {f} {g} {text} {u} place r e d b = grind (arith, body_shorter)
+  outcome_of {f} {g} {text} {u} place r e d b =
+      rw (outcome_alike (plain_body text) u e.alike) (outcome_whole place r e.few d b)
 
 module _ {F E : Type 0} (step : F → List ℕ → Result (Unit {0}) E → F → Type 0)
     (kept : List ℕ → F → Type 0) (stopped : List ℕ → E → F → Type 0)
@@ -203,20 +243,35 @@ until_error closure f h run g ran n bytes =
     (k.at ((bytes, tt) ∷ [])).0
 
 -- what each call that succeeds preserves is true after a closure took a whole body
-pub took_preserves : {F E : Type 0} {step : F → List ℕ → Result (Unit {0}) E → F → Type 0} {f g : F} {text : List ℕ}
-    {r : Result ℕ E} {place : ℕ} → TakesBody step f text r g → r ≡ Ok place → (K : F → Type 0)
+pub took_preserves : (spaced : Bool) {F E : Type 0} {step : F → List ℕ → Result (Unit {0}) E → F → Type 0} {f g : F}
+    {text : List ℕ} {r : Result ℕ E} {place : ℕ} → TakesBody spaced step f text r g → r ≡ Ok place → (K : F → Type 0)
     → ((p : F) (piece : List ℕ) (q : F) → K p → step p piece (Ok tt) q → K q) → K f → K g
-took_preserves {step = step} {f = f} {g = g} took e K keeps k =
+took_preserves spaced {step = step} {f = f} {g = g} took e K keeps k =
     let t = rw e at took in run_preserves step K keeps t.run f g t.ran t.gave.1 k
 
 -- a closure that took a body decodes it, if it is not base64
 pub plain_taken : {F E : Type 0} (step : F → List ℕ → Result (Unit {0}) E → F → Type 0) {f g : F} {text : List ℕ}
-    {flag : Bool} {r : Result ℕ E} {r' : Result ℕ (DecodeError E)} → flag ≡ false → TakesBody step f text r g
+    {flag : Bool} {r : Result ℕ E} {r' : Result ℕ (DecodeError E)} → flag ≡ false → TakesBody flag step f text r g
     → MatchResult r (λ place. r' ≡ Ok place) (λ e. r' ≡ Err (WriteError e))
     → Decodes step f (length text + 1) (outcome flag (plain_body text)) (IsBodyEnd text) r' g
 unfolding outcome
-plain_taken step {f} {g} {text} {flag} {r = Ok place} {r'} b t m = grind arith
-plain_taken step {f} {g} {text} {flag} {r = Err e} {r'} b t m = grind arith
+plain_taken step {f} {g} {text} {flag} {r = Ok place} {r'} b t m =
+    let t = rw b at t in
+    rw b (record {
+      run = t.run;
+      ran = t.ran;
+      calls = omega (arith, t.calls);
+      gave = match_at None (refusal t.run) _ _ t.gave.1 (record { bytes_are = sym t.gave.2.alike; answer = rw m t.gave.0 });
+    })
+plain_taken step {f} {g} {text} {flag} {r = Err e} {r'} b t m =
+    let t = rw b at t in
+    rw b (record {
+      run = t.run;
+      ran = t.ran;
+      calls = omega (arith, t.calls);
+      gave = match_at (Some e) (refusal t.run) _ _ t.gave.0
+          (record { bytes_begin = (t.gave.1, t.gave.2.alike); answer = m });
+    })
 
 module _ {C F E : Type 0} {outer : C → List ℕ → Result (Unit {0}) (DecodeError E) → C → Type 0}
     (step : F → List ℕ → Result (Unit {0}) E → F → Type 0) (state : C → State F)
@@ -233,27 +288,27 @@ module _ {C F E : Type 0} {outer : C → List ℕ → Result (Unit {0}) (DecodeE
       (λ bytes p piece e q k o. feeds_then step k (feeds p piece (Err e) q o)) (fed_nothing step s)
 
   -- if a closure that feeds a new decoder takes a body up to an error, this is the result of decoding it as base64
-  pub fed_refused : {f : F} {c c' : C} {text : List ℕ} {r : Result ℕ (DecodeError E)} {x : DecodeError E}
-      → state c ≡ start f → TakesBody outer c text r c' → r ≡ Err x
-      → Decodes step f (length text + 1) (outcome true (plain_body text)) (IsBodyEnd text) (Err x) (state c').closure
-  fed_refused {f} {c} {c'} {text} {r} {x} s took e =
-      let t = rw e at took in
+  pub fed_refused : {f : F} {c c' : C} {text : List ℕ} {flag : Bool} {r : Result ℕ (DecodeError E)} {x : DecodeError E}
+      → flag ≡ true → state c ≡ start f → TakesBody flag outer c text r c' → r ≡ Err x
+      → Decodes step f (length text + 1) (outcome flag (plain_body text)) (IsBodyEnd text) (Err x) (state c').closure
+  fed_refused {f} {c} {c'} {text} {flag} {r} {x} b s took e =
+      let t = rw (b, e) at took in
       let k = match_at (refusal t.run) (Some x) _ _ (sym t.gave.0) (fed c c' t.run s t.ran) in
-      let d = decodes_refused step refl (feeds_err step t.gave.1.0 k) in
-      outcome_of step 0 (Err x) (sym t.gave.1.1) d (λ e. absurd (cc))
+      let d = decodes_refused step refl (feeds_err step t.gave.1 k) in
+      rw b (outcome_of step 0 (Err x) t.gave.2 d (λ e. absurd (cc)))
 
   -- if a closure that feeds a new decoder takes a whole body, and then the decoder is finished, this is the result of
   -- decoding the body as base64
-  pub fed_ended : {f g : F} {c c' : C} {text : List ℕ} {r : Result ℕ (DecodeError E)} {place : ℕ}
-      {p : Result (Unit {0}) (DecodeError E)} {q : Result ℕ (DecodeError E)} → state c ≡ start f
-      → TakesBody outer c text r c' → r ≡ Ok place → Finishes step (state c') p g
+  pub fed_ended : {f g : F} {c c' : C} {text : List ℕ} {flag : Bool} {r : Result ℕ (DecodeError E)} {place : ℕ}
+      {p : Result (Unit {0}) (DecodeError E)} {q : Result ℕ (DecodeError E)} → flag ≡ true → state c ≡ start f
+      → TakesBody flag outer c text r c' → r ≡ Ok place → Finishes step (state c') p g
       → MatchResult p (λ x. q ≡ Ok place) (λ e. q ≡ Err e)
-      → Decodes step f (length text + 1) (outcome true (plain_body text)) (IsBodyEnd text) q g
-  fed_ended {f} {g} {c} {c'} {text} {r} {place} {p} {q} s took e ended m =
-      let t = rw e at took in
+      → Decodes step f (length text + 1) (outcome flag (plain_body text)) (IsBodyEnd text) q g
+  fed_ended {f} {g} {c} {c'} {text} {flag} {r} {place} {p} {q} b s took e ended m =
+      let t = rw (b, e) at took in
       let k = match_at (refusal t.run) None _ _ (sym t.gave.1) (fed c c' t.run s t.ran) in
       let d = decodes_finished step refl k ended in
-      rw (sym (mapped place p q m)) (outcome_of step place p (sym t.gave.2) d (λ _. t.gave.0))
+      rw (b, sym (mapped place p q m)) (outcome_of step place p t.gave.2 d (λ _. t.gave.0))
 
 -- if each call that succeeds extends a measure by its piece, a run without an error extends it by all its bytes
 pub run_extends : {F E : Type 0} (step : F → List ℕ → Result (Unit {0}) E → F → Type 0) (cs : List (Call F E)) (f g : F)

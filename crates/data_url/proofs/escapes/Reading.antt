@@ -6,9 +6,10 @@ use Rattle.std.proofs.Common.{eqb, ltb, eqb-true, take, append_assoc, length-app
 use Rattle.std.proofs.Common.{map-id, ◌≡◌, ℕ, zero, suc, ◌+◌, ◌*◌, ◌-◌, ◌<◌, ◌≤◌, Bool, true, false, not, cond, ◌&&◌}
 use Rattle.std.{proofs.Common.{leb}, proofs.Math.Nat.{div-div-eq-div-mul, pow-suc}}
 use Rattle.std.proofs.lemmas.Nat.{le_or_l, le_or_r, or_lt, and_le_r}
-use Rattle.std.{proofs.Math.Seq.{take-append-add}, specs.Char.{digit_value, is_ascii_hexdigit}, specs.List.{prefix_len}}
+use Rattle.std.{proofs.Math.Seq.{take-append-add}, specs.Char.{digit_value, is_ascii_hexdigit}, specs.List.{list_all, prefix_len}}
 use Rattle.std.proofs.lemmas.Bool.{agree_below_at, and_left, and_right, cases_Bool, cases_lt, eqb-true}
 use Rattle.std.proofs.lemmas.List.Sums.{prefix_len-drop_yes, prefix_len-drop_no, prefix_len-le-length}
+use Rattle.std.proofs.lemmas.List.Sums.{count_by-le-length, length-filter}
 use Rattle.std.proofs.lemmas.List.{drop-replicate, take_rest, take-append-le, drop-map, length-map}
 use Rattle.std.proofs.lemmas.Simd.{SwzOk-from_below, get_or-swz_l_below, mask_l-mod, swz_l, run_in_chunk_le}
 use Rattle.std.proofs.lemmas.Simd.{bitmask_splat, run_in_chunk_stops, trailing_mask_l, tops_compared, zip2_of_maps}
@@ -16,7 +17,7 @@ use Rattle.std.proofs.lemmas.Simd.{zip2_splat, none_from_empty_mask, run_in_chun
 use Rattle.std.{specs.Int.Count.{count_trailing_zeros}, specs.Simd.Lanes.{chunk, mask_l, put_chunk, Each1, top, zip2}}
 use Rattle.data_url.specs.{Fetch.{plain_body}, Percent.{begins_with_escape, percent_decoding}, Pieces.{is_slice_end}}
 use Rattle.data_url.specs.Steps.Digits.{DigitFound, EscapeAt, NoDigit, NoEscape, Skipped, IsCode, IsDigitFrom, cleaned}
-use Rattle.data_url.specs.{Steps.Looks.{before_percent, paid}, Steps.Tail.{BeginsFragment}, Steps.Window.{is_marked}}
+use Rattle.data_url.specs.{Steps.Looks.{before_percent, paid}, Steps.Tail.{BeginsFragment}, Steps.Window.{is_marked, is_plain}}
 use Rattle.data_url.specs.Steps.Walk.{IsClear, IsStop, Reads, Spells, IsBlock, IsNextMark, Looking}
 use Rattle.data_url.specs.Url.{after, front, is_tab_or_newline, before, without_tabs_and_newlines}
 use Rattle.data_url.specs.{declared.escapes.digits.TheConstants.{DIGITS}, declared.escapes.lanes.TheConstants.{MARKED}}
@@ -252,6 +253,30 @@ decoded_byte b [] h = refl
 decoded_byte b (c ∷ []) h = refl
 decoded_byte b (c ∷ d ∷ s) h = grind arith
 
+-- the text before the first c is not longer than the whole text
+before_shorter : (c : ℕ) (s : List ℕ) → length (before c s) ≤ length s
+unfolding before
+before_shorter c [] = omega arith
+before_shorter c (b ∷ s) = grind (arith, before_shorter c s)
+
+-- a percent-decoded text is not longer than the text
+percent_shorter : (s : List ℕ) → length (percent_decoding s) ≤ length s
+unfolding percent_decoding
+percent_shorter [] = omega arith
+percent_shorter (a ∷ []) = omega arith
+percent_shorter (a ∷ b ∷ []) = omega arith
+percent_shorter (a ∷ b ∷ c ∷ s) =
+    let h = percent_shorter s in
+    let k = percent_shorter (b ∷ c ∷ s) in
+    elim (begins_with_escape (a ∷ b ∷ c ∷ s)) as
+    (λ v. length (cond v ((16 * digit_value b + digit_value c) ∷ percent_decoding s)
+    (a ∷ percent_decoding (b ∷ c ∷ s))) ≤ suc (suc (suc (length s)))) [ true ↦ omega arith | false ↦ omega arith ]
+
+-- the body of a tail is not longer than the tail
+pub body_shorter : (tail : List ℕ) → length (plain_body tail) ≤ length tail
+unfolding plain_body front without_tabs_and_newlines
+body_shorter tail = grind (arith, percent_shorter, before_shorter, length-filter, count_by-le-length)
+
 -- a text is its bytes before the first '#', and then some other text
 before_first : (s : List ℕ) → (rest : List ℕ) × (s ≡ before 35 s ++ rest)
 unfolding before
@@ -285,12 +310,12 @@ pub spells_then : {text r s a b : List ℕ} {from middle to : ℕ} → Spells te
 spells_then {text} {r} {s} {a} {b} {from} {middle} {to} p q = grind (arith, reads_then, append_assoc)
 
 -- a tab or newline is read as no byte
-spells_passed : (text : List ℕ) (place : ℕ) → place < length text → is_tab_or_newline (get_or text place 0) ≡ true
+pub spells_passed : (text : List ℕ) (place : ℕ) → place < length text → is_tab_or_newline (get_or text place 0) ≡ true
     → Spells text place (place + 1) [] []
 spells_passed text place l h = grind (arith, drop_more text place 0, plain_is, cleaned_passes, after_other)
 
 -- a byte that is neither a tab or newline, nor '#', and does not begin an escape is read as it is
-spells_byte : (text : List ℕ) (place : ℕ) → place < length text → is_tab_or_newline (get_or text place 0) ≡ false
+pub spells_byte : (text : List ℕ) (place : ℕ) → place < length text → is_tab_or_newline (get_or text place 0) ≡ false
     → (get_or text place 0 == 35) ≡ false → begins_with_escape (cleaned (drop place text)) ≡ false
     → Spells text place (place + 1) (get_or text place 0 ∷ []) (get_or text place 0 ∷ [])
 spells_byte text place l t h e =
@@ -488,6 +513,24 @@ pub none_marked : (v : List ℕ) → length v ≡ 64
     → mask_l (map (top 7) (zip2 (λ a b. cond (leb a b) 255 0) v (replicate 64 37))) % 2 ^ 64 ≡ 0
     → 0 ≡ mask_l (map is_marked v)
 none_marked v long e = none_low v (sym (bitmask_splat w8 leb v 64 37 long (omega arith)) ∙ e)
+
+-- if no byte is one of the three from '#' on, none is '#' or '%'
+none_stops : (v : List ℕ) → mask_l (map (λ b. leb b 2) (map (λ b. (b + 221) % 256) v)) ≡ 0 → list_all is_plain v ≡ true
+none_stops [] e = refl
+none_stops (b ∷ v) e = grind (arith, none_stops v)
+
+-- a mask that is not other than 0 is 0
+pub no_bits : (m : ℕ) → not (m == 0) ≡ false → m ≡ 0
+no_bits m e = grind arith
+
+-- if a comparison of lanes finds no such byte, there is no '#' and no '%'
+pub may_not_stop : (v : List ℕ) → length v ≡ 64
+    → mask_l (map (top 7) (zip2 (λ a b. cond (leb a b) 255 0) (zip2 (λ a b. (a + b) % 256) v (replicate 64 221))
+    (replicate 64 2))) % 2 ^ 64 ≡ 0 → list_all is_plain v ≡ true
+may_not_stop v long e =
+    let moved = zip2_splat (λ a b. (a + b) % 256) v 64 221 long in
+    let few = length-map v (λ b. (b + 221) % 256) ∙ long in
+    none_stops v (sym (bitmask_splat w8 leb (map (λ b. (b + 221) % 256) v) 64 2 few (omega arith)) ∙ rw moved at e)
 
 -- the lemmas for `marks_of`
 pub ruleset marks = (lows_ok, marks_are, none_marked)

@@ -8,7 +8,7 @@ use Rattle.std.proofs.lemmas.Bool.{cases_Bool, false≢true, eqb-true, false_fro
 use Rattle.std.proofs.lemmas.List.{length-map, drop-map, get_or_at, length_push, length-replicate}
 use Rattle.std.specs.Char.{is_ascii_whitespace}
 use Rattle.data_url.specs.Base64.{before_place, first_fault, is_fault, is_symbol, is_valid, without_padding, kind_of}
-use Rattle.data_url.specs.{Base64.{complete_bytes}}
+use Rattle.data_url.specs.{Base64.{complete_bytes, decoded, symbol_value}}
 use Rattle.data_url.proofs.facts.Definitions.{IsFirstFault, IsSymbolsAndPadding, PaddingFits}
 use Rattle.data_url.specs.Base64.{groups, values, without_last_padding, Kind, after_groups, without_whitespace}
 use Rattle.data_url.specs.{Mime.{Every}, declared.forgiving_base64.InvalidBase64Details.TheVariants.{UnexpectedSymbol}}
@@ -121,6 +121,19 @@ fault_compact : (b : List ℕ) (s : Bool) → fault_byte s (without_whitespace b
 unfolding fault_byte without_whitespace
 fault_compact [] s = refl
 fault_compact (c ∷ t) s = grind (arith, space_alone (classes c), fault_compact t (s || is_pad c))
+
+-- nor does it change the symbols
+symbols_compact : (b : List ℕ) → filter is_symbol (without_whitespace b) ≡ filter is_symbol b
+unfolding without_whitespace
+symbols_compact [] = refl
+symbols_compact (c ∷ t) = grind (arith, space_alone (classes c), symbols_compact t)
+
+-- nor those before the first fault
+before_compact : (b : List ℕ) (s : Bool)
+    → filter is_symbol (before_fault s (without_whitespace b)) ≡ filter is_symbol (before_fault s b)
+unfolding before_fault without_whitespace
+before_compact [] s = refl
+before_compact (c ∷ t) s = grind (arith, space_alone (classes c), before_compact t (s || is_pad c))
 
 -- a text without a fault that comes after padding has no symbols
 seen_none : (b : List ℕ) → fault_byte true b ≡ None → filter is_symbol b ≡ []
@@ -274,6 +287,35 @@ kind_is b = grind (arith, byte_is b)
 pub done_is : (b : List ℕ) → complete_bytes b ≡ groups (values (before_fault false b))
 unfolding complete_bytes first_fault
 done_is b = ap (λ x. groups (values x)) (found (is_fault b) [] b (fault_at b)).1
+
+-- texts that are equal without white space have the same values
+values_alike : (x y : List ℕ) → without_whitespace x ≡ without_whitespace y → values x ≡ values y
+unfolding values
+values_alike x y e =
+    ap (map symbol_value) (sym (symbols_compact x) ∙ ap (filter is_symbol) e ∙ symbols_compact y)
+
+-- they are both valid, or both not
+pub valid_alike : (x y : List ℕ) → without_whitespace x ≡ without_whitespace y → is_valid x ≡ is_valid y
+unfolding is_valid
+valid_alike x y e = cc
+
+-- they are decoded to the same bytes
+pub decoded_alike : (x y : List ℕ) → without_whitespace x ≡ without_whitespace y → decoded x ≡ decoded y
+unfolding decoded
+decoded_alike x y e = cc (values_alike x y e)
+
+-- they have the same complete bytes
+pub done_alike : (x y : List ℕ) → without_whitespace x ≡ without_whitespace y → complete_bytes x ≡ complete_bytes y
+unfolding values
+done_alike x y e =
+    let k = sym (before_compact x false) ∙ ap (λ z. filter is_symbol (before_fault false z)) e ∙ before_compact y false in
+    done_is x ∙ ap (λ z. groups (map symbol_value z)) k ∙ sym (done_is y)
+
+-- they have the same kind
+pub kind_alike : (x y : List ℕ) → without_whitespace x ≡ without_whitespace y → kind_of x ≡ kind_of y
+kind_alike x y e =
+    let k = sym (fault_compact x false) ∙ ap (fault_byte false) e ∙ fault_compact y false in
+    cc (kind_is x, kind_is y, values_alike x y e)
 
 -- after a fault, the text that follows changes neither the complete bytes nor the kind
 pub done_stays : (a b : List ℕ) (x : ℕ) → fault_byte false a ≡ Some x → complete_bytes (a ++ b) ≡ complete_bytes a

@@ -21,7 +21,7 @@ decode_pieces-requires-clause-callable g c = λ run h ran n bytes.
 pub finish_with-ended-requires : goal.finish_with-ended-requires
 finish_with-ended-requires g c =
     let name = run_keeps _ (λ p. p.0.ghost_name) (λ p piece r q k. search rules) _ _ _ c.decode_pieces.ensures.ran in
-    let can = took_preserves c.decode_pieces.ensures c.in-Ok.is
+    let can = took_preserves _ c.decode_pieces.ensures c.in-Ok.is
     (λ p. always_mut g.F.FnMut p.0.now.write_bytes × (p.0.now.failed ≡ false)) (λ p piece q i k. search (rules, i))
     (search rules) in
     record { callable = search (rules, can); going = search (rules, can) }
@@ -33,12 +33,12 @@ returns-in-Ok g c =
     c.finish_with-ended.result.1 = search (rules, name) in
     let mapped : MatchResult c.finish_with-ended.result.0 (λ x. c.map.result ≡ Ok c.in-Ok.place)
     (λ e. c.map.result ≡ Err e) = search rules in
-    rw c.if-not-base64.false (fed_ended (CalledAt g.F.FnMut) (λ p. state_of p.0.now) (λ p piece r q k. search rules)
-    c.new-decoder.ensures.state c.decode_pieces.ensures c.in-Ok.is ended mapped)
+    fed_ended (CalledAt g.F.FnMut) (λ p. state_of p.0.now) (λ p piece r q k. search rules) c.if-not-base64.false
+    c.new-decoder.ensures.state c.decode_pieces.ensures c.in-Ok.is ended mapped
 
 pub returns-in-Err : goal.returns-in-Err
 returns-in-Err g c =
     let name = run_keeps _ (λ p. p.0.ghost_name) (λ p piece r q k. search rules) _ _ _ c.decode_pieces.ensures.ran in
     let refused = fed_refused (CalledAt g.F.FnMut) (λ p. state_of p.0.now) (λ p piece r q k. search rules)
-    c.new-decoder.ensures.state c.decode_pieces.ensures c.in-Err.is in
+    c.if-not-base64.false c.new-decoder.ensures.state c.decode_pieces.ensures c.in-Err.is in
     search (rules, refused)

@@ -1,6 +1,6 @@
 use Rattle.std.proofs.{Common.{arith}, lemmas.List.{take_more_set}}
 use Rattle.data_url.specs.declared.escapes.Piece.TheVariants.{Byte, Slice}
-use Rattle.data_url.proofs.escapes.Walking.{over_next, takes_next}
+use Rattle.data_url.proofs.escapes.Walking.{over_next, takes_gathered, takes_next}
 use Rattle.data_url.proofs.escapes.cursor.Cursor.next_bytes.Goals as goal
 
 pub returns-in-None-clause-gives : goal.returns-in-None-clause-gives
@@ -17,3 +17,6 @@ pub returns-in-Some-Slice-clause-gives : goal.returns-in-Some-Slice-clause-gives
 returns-in-Some-Slice-clause-gives c =
     let goes = rw c.in-Some-Slice.field-0-is at c.in-Some-Slice.ensures.goes in
     takes_next (Slice c.in-Some-Slice.slice) c.gather-len.ensures.gathers (omega arith) goes
+
+pub returns-then-len-gt0-clause-gives : goal.returns-then-len-gt0-clause-gives
+returns-then-len-gt0-clause-gives c = takes_gathered c.gather-len.ensures.gathers c.if-len-gt0.true
