@@ -380,10 +380,6 @@ escape_value : (h l : ℕ) (s : List ℕ) → is_ascii_hexdigit h ≡ true → i
     → first_value (37 ∷ h ∷ l ∷ s) ≡ 16 * digit_value h + digit_value l
 escape_value h l s p q = grind arith
 
--- a '%' is no tab or newline
-percent_stays : (b : ℕ) → b ≡ 37 → is_tab_or_newline b ≡ false
-percent_stays b is = ap is_tab_or_newline is
-
 -- a tab or newline is neither '#' nor '%'
 tab_other : (b : ℕ) → is_tab_or_newline b ≡ true → ((b == 35) ≡ false) × ((b == 37) ≡ false)
 tab_other b h = grind arith

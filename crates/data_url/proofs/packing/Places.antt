@@ -78,10 +78,6 @@ raised_below (x ∷ ps) h = (omega (arith, h.0), raised_below ps h.1)
 pub raised_long : (ps : List ℕ) → length ps ≡ 16 → length (map (λ p. (p + 8) % 256) ps) ≡ 16
 raised_long ps long = length-map ps (λ p. (p + 8) % 256) ∙ long
 
--- the places of the second half of a row are those of the first, and 8 more
-raised_range : map (λ p. (p + 8) % 256) (range_with_len 0 8) ≡ range_with_len 8 8
-raised_range = refl
-
 -- the bits after the first k do not matter to k items or fewer
 pub clear_low : (xs : List ℕ) (k m : ℕ) → length xs ≤ k → clear xs (m % 2 ^ k) ≡ clear xs m
 clear_low [] k m l = refl

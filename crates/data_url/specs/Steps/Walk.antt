@@ -152,14 +152,9 @@ pub record MayGather (c : Cursor) (len : ℕ) : Type 0 where
   pub unknown : c.ahead ≡ Unknown
   pub room : HasRoom c len
 
--- if whole blocks are copied, 64 more bytes of the text follow the block
+-- if the block is not dense, 64 more bytes of the text follow it, so that whole blocks can be copied
 abbrev pub IsWide : Cursor → Bool → Type 0
-IsWide c wide = wide ≡ true → c.block.seen + 64 ≤ length (text_of c)
-
--- a part of the block is left to be copied
-pub record IsNear (c : Cursor) : Type 0 where
-  pub unknown : c.ahead ≡ Unknown
-  pub here : c.place < c.block.seen
+IsWide c dense = dense ≡ false → c.block.seen + 64 ≤ length (text_of c)
 
 -- the block that was read last begins at the walk's index, and these are its 64 bytes
 pub record IsWhole (c : Cursor) (bytes : List ℕ) : Type 0 where

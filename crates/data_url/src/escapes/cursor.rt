@@ -9,7 +9,7 @@ ghost use Rattle.data_url.specs.Pieces.{is_slice_end, text_of, walk_at_start, wa
 ghost use Rattle.data_url.specs.Steps.Chunks.{GivesBytes, GivesSpaced, IsBodyPrefix, Spans};
 ghost use Rattle.data_url.specs.Steps.Escapes.{front_values};
 ghost use Rattle.data_url.specs.Url.{is_tab_or_newline, percent_sign};
-ghost use Rattle.data_url.specs.Steps.Walk.{Gathering, Gathers, GoesOn, HasRoom, IsGathered, IsLast, IsNear, IsPart, IsWhole, IsWide, Knows, KnowsAhead, Looking, LooksOn, MayGather, Moves, Searching, Spells};
+ghost use Rattle.data_url.specs.Steps.Walk.{Gathering, Gathers, GoesOn, HasRoom, IsGathered, IsLast, IsPart, IsWhole, IsWide, Knows, KnowsAhead, Looking, LooksOn, MayGather, Moves, Searching, Spells};
 ghost use Rattle.data_url.specs.Steps.Window.{is_marked};
 
 use super::Piece;
@@ -30,6 +30,9 @@ const SEVERAL: u32 = 3;
 
 /// With this many marks in the last block, which is shorter, the same is true.
 const MANY: u32 = 6;
+
+/// With this many marks in a block, those escapes of it that are not decoded in lanes are likely to follow one another.
+const DENSE: u32 = 14;
 
 /// With fewer bytes before the first stop of a block, its escapes are decoded one by one.
 const FEW: usize = 16;
@@ -321,10 +324,11 @@ impl<'a> Cursor<'a> {
         if len == 0 && self.block.marks == 0 {
             return None;
         }
-        Some(if self.source.len() - self.block.seen >= BLOCK {
-            self.gather_block(room, len, true)
-        } else {
+        let is_followed = self.source.len() - self.block.seen >= BLOCK;
+        Some(if is_followed && self.block.marks.count_ones() < DENSE {
             self.gather_block(room, len, false)
+        } else {
+            self.gather_block(room, len, true)
         })
     }
 
@@ -496,13 +500,13 @@ impl<'a> Cursor<'a> {
         }
     }
 
-    /// Gathers the rest of the block that was read, after the bytes that were gathered before. Stretches are copied by whole
-    /// blocks if `wide` is true.
+    /// Gathers the rest of the block that was read, after the bytes that were gathered before. In a dense block escapes
+    /// follow one another. Any other block is copied by whole blocks.
     #[inline(always)]
-    fn gather_block(&mut self, room: &mut [u8; BUFFER_LEN], len: usize, wide: bool) -> usize
+    fn gather_block(&mut self, room: &mut [u8; BUFFER_LEN], len: usize, dense: bool) -> usize
         requires may { MayGather self.old len }
         requires here { self.old.place < self.old.block.seen }
-        requires wide { IsWide self.old wide }
+        requires wide { IsWide self.old dense }
         ensures gathers { Gathers self.old self.new room.old room.new len result }
         ensures few { result ≤ 512 }
         ensures gathering { Gathering self.new }
@@ -512,13 +516,13 @@ impl<'a> Cursor<'a> {
         while self.place < self.block.seen {
             let place = self.place;
             let Some(mark) = self.block.mark_from(&self.source, place) else {
-                self.source.copy(place, self.block.seen, room, len, wide);
+                self.source.copy(place, self.block.seen, room, len, !dense);
                 self.place = self.block.seen;
                 return len + (self.place - place);
             };
-            self.source.copy(place, mark, room, len, wide);
+            self.source.copy(place, mark, room, len, !dense);
             self.place = mark;
-            let (more, ended) = self.gather_stop(room, len + (mark - place));
+            let (more, ended) = self.gather_stop(room, len + (mark - place), dense);
             len = more;
             if ended {
                 return len;
@@ -529,7 +533,7 @@ impl<'a> Cursor<'a> {
 
     /// Gathers what begins at the mark at the place.
     #[inline(always)]
-    fn gather_stop(&mut self, room: &mut [u8; BUFFER_LEN], len: usize) -> (usize, bool)
+    fn gather_stop(&mut self, room: &mut [u8; BUFFER_LEN], len: usize, dense: bool) -> (usize, bool)
         requires may { MayGather self.old len }
         requires here { self.old.place < self.old.block.seen }
         requires marked { is_marked (slice_index (text_of self.old) self.old.place) ≡ true }
@@ -550,13 +554,41 @@ impl<'a> Cursor<'a> {
             Stop::Escape(value, end) => {
                 room[len] = value;
                 self.place = end;
-                (len + 1, false)
+                let len = if dense {
+                    self.gather_escapes(room, len + 1)
+                } else {
+                    len + 1
+                };
+                (len, false)
             }
             Stop::End => {
                 self.ahead = Ahead::End;
                 (len, true)
             }
         }
+    }
+
+    /// Gathers the values of escapes that follow one another after an escape.
+    #[inline(always)]
+    fn gather_escapes(&mut self, room: &mut [u8; BUFFER_LEN], len: usize) -> usize
+        requires unknown { self.old.ahead ≡ Ahead.Unknown }
+        requires looking { Looking self.old.source self.old.block self.old.place 3 }
+        requires room { HasRoom self.old len }
+        ensures gathers { Gathers self.old self.new room.old room.new len result }
+        ensures may { MayGather self.new result }
+        ensures block { self.new.block.seen ≡ self.old.block.seen }
+    {
+        let mut len = len;
+        let end = BUFFER_LEN.min(len + (self.source.len() - self.place) / ESCAPE);
+        while len < end {
+            let Some(value) = self.source.escape_here(self.place) else {
+                return len;
+            };
+            self.place += ESCAPE;
+            room[len] = value;
+            len += 1;
+        }
+        len
     }
 }
 

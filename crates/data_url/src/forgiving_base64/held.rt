@@ -22,8 +22,8 @@ pub(crate) struct HeldGroups {
     ghost sized: { length bytes ≡ 208 },
 }
 
-/// Returns how many bytes of white space a text begins with. The most frequent ends of lines come first, and a line
-/// that is indented after them.
+/// Returns how many bytes of white space a text begins with. The most frequent ends of lines come first, and then
+/// a newline before a space.
 #[inline(always)]
 fn spaces_ahead(text: &[u8]) -> usize
     requires { 3 ≤ length text.now }
@@ -119,7 +119,7 @@ impl HeldGroups {
     {
         let rows_end = text.len().saturating_sub(15);
         let mut len = self.len;
-        // Where 64 groups are held, or up to three bytes before: 85 / 64 is a little less than 4 / 3.
+        // One byte before the place where 64 groups are held: 85 / 64 is a little less than 4 / 3.
         let mut full_at = (FULL - len) * 85 / 64;
         let mut end = rows_end.min(full_at);
         let mut at = 0;

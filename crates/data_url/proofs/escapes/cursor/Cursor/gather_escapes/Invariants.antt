@@ -1,0 +1,17 @@
+-- Some bytes are gathered, and the walk is directly after an escape.
+use Rattle.std.proofs.Common.{◌≡◌, ◌+◌, ◌*◌, ◌-◌, ◌≤◌, length}
+use Rattle.data_url.specs.Pieces.{text_of}
+use Rattle.data_url.specs.{Steps.Walk.{Gathers, HasRoom, Looking}, declared.escapes.cursor.Ahead.TheVariants.{Unknown}}
+use Rattle.data_url.proofs.escapes.cursor.Cursor.gather_escapes.Given as goal
+
+abbrev pub invariant-loop-len : goal.invariant-loop-len
+invariant-loop-len l =
+    Gathers l.fn.self l.self l.fn.room l.room l.initial.len l.len
+    × Looking l.self.source l.self.block l.self.place 3
+    × HasRoom l.self l.len
+    × (l.self.ahead ≡ Unknown)
+    × (l.self.block.seen ≡ l.fn.self.block.seen)
+    × (l.self.place + 3 * (l.end - l.len) ≤ length (text_of l.self))
+
+abbrev pub decreases-loop-len : goal.decreases-loop-len
+decreases-loop-len l = l.end - l.len
