@@ -837,8 +837,7 @@ zeros_before m size least few is =
       | inr l ↦
           let same : least ≡ size = omega (arith, is, l) in
           let width : z ≡ z - size + size = omega (arith, l) in
-          let split = mod-pow-add m (z - size) size in
-          (
+          let split = mod-pow-add m (z - size) size in (
             ap (λ n. m % 2 ^ n) same ∙ omega (arith, split, ap (λ n. m % 2 ^ n) width, a.0),
             λ k. absurd (omega (arith, same, k)),
           )
@@ -858,8 +857,7 @@ pub none_start : (s : List ℕ) (pcts : ℕ) → pcts ≡ percents s → pcts �
 none_start [] pcts p n = (refl, refl)
 none_start (b ∷ s) pcts p n =
     let none = begins_other b s (bit_clear (b == 37) (omega (arith, p, n))) in
-    let more = none_start s (percents s) refl (omega (arith, p, n)) in
-    (
+    let more = none_start s (percents s) refl (omega (arith, p, n)) in (
       ap₂ (λ x (l : List ℕ). x ∷ l) (sym (first_stays b s none)) more.0,
       ap₂ (λ (x : Bool) n. cond x 1 0 + 2 * n) (sym none) more.1,
     )
@@ -896,8 +894,7 @@ first_zeros : (t : Bool) (m n : ℕ) → (cond t 1 0 + 2 * m) % 2 ^ suc n ≡ 0 
 first_zeros t m n e =
     let k = cond t 1 0 + 2 * m in
     let split : k % 2 ^ suc n ≡ k / 2 % 2 ^ n * 2 + k % 2 =
-    ap (λ p. k % p) (pow-suc 2 n) ∙ mod-mul k {m = 2 ^ n} {c = 2} (pow_pos n) (lit< tt) in
-    (
+    ap (λ p. k % p) (pow-suc 2 n) ∙ mod-mul k {m = 2 ^ n} {c = 2} (pow_pos n) (lit< tt) in (
       bit_clear t (sym (last_bit t m) ∙ omega (arith, split, e)),
       ap (λ h. h % 2 ^ n) (sym (half_mask t m)) ∙ omega (arith, split, e),
     )
@@ -1143,19 +1140,19 @@ rest_closed {text} {place} {seen} {used} {v} f =
           let same = first ∙ sym n.0 in
           by_digit (other_first t (λ _. (ap is_tab_or_newline same ∙ n.1, ap is_ascii_hexdigit same ∙ n.2)))
       | inr l ↦ elim (cases_lt (seen - place) 64) [
-          | inl k ↦
-              let over : length t ≡ 0 =
-              omega (arith, length-drop (place + used) text, f.few, l, f.some, f.ends (omega (arith, k, f.some))) in
-              by_digit (other_first t (λ some. absurd (omega (arith, some, over))))
-          | inr k ↦
-              let all : used ≡ 64 = omega (arith, l, k, f.few, f.short) in
-              let long = block_long f in
-              let few : mask_l (stops v) < 2 ^ 64 =
-              omega (arith, mask_l-lt (stops v), ap (λ n. 2 ^ n) (length-stops v ∙ long)) in
-              let zero_is : mask_l (stops v) ≡ 0 =
-              sym (mod-eq_of_lt few) ∙ ap (λ n. mask_l (stops v) % 2 ^ n) (sym all) ∙ f.none in
-              let whole_is : x ≡ v = take_all used v (omega (arith, long, all)) in
-              ap (λ b. b && begins_with_digit (cleaned t)) (ap is_open whole_is ∙ open_none v zero_is)
+        | inl k ↦
+            let over : length t ≡ 0 =
+            omega (arith, length-drop (place + used) text, f.few, l, f.some, f.ends (omega (arith, k, f.some))) in
+            by_digit (other_first t (λ some. absurd (omega (arith, some, over))))
+        | inr k ↦
+            let all : used ≡ 64 = omega (arith, l, k, f.few, f.short) in
+            let long = block_long f in
+            let few : mask_l (stops v) < 2 ^ 64 =
+            omega (arith, mask_l-lt (stops v), ap (λ n. 2 ^ n) (length-stops v ∙ long)) in
+            let zero_is : mask_l (stops v) ≡ 0 =
+            sym (mod-eq_of_lt few) ∙ ap (λ n. mask_l (stops v) % 2 ^ n) (sym all) ∙ f.none in
+            let whole_is : x ≡ v = take_all used v (omega (arith, long, all)) in
+            ap (λ b. b && begins_with_digit (cleaned t)) (ap is_open whole_is ∙ open_none v zero_is)
       ]
     ]
 

@@ -20,8 +20,7 @@ returns-clause-packed c =
     let p = c.pack_front-end in
     let all : c.len_before_stop.result ≡ length c.args.rest.now = omega (arith, b.few, c.if-len_before_stop-rest.false) in
     let none : c.stops_of-passed.result.1 % 2 ^ length c.args.rest.now ≡ 0 =
-    ap (λ n. c.stops_of-passed.result.1 % 2 ^ n) (sym all) ∙ b.none in
-    (
+    ap (λ n. c.stops_of-passed.result.1 % 2 ^ n) (sym all) ∙ b.none in (
       omega (arith, p.ensures.few, c.requires.room),
       rest_packed c.args.rest.now c.padded-bytes.result c.args.room.now p.new.room c.stops_of-passed.result.1 c.args.len
           p.result c.requires.rest.0 c.requires.rest.1 c.padded-bytes.ensures s none

@@ -18,8 +18,7 @@ returns-clause-packed c =
     let p = c.pack_front-end in
     let q = c.pass_front.ensures in
     let w = c.requires.whole in
-    let f = front_of c.requires.may.looking.block w c.stops_of-passed.ensures.stops u.few u.none u.stop in
-    (
+    let f = front_of c.requires.may.looking.block w c.stops_of-passed.ensures.stops u.few u.none u.stop in (
       gathers_front f q.source q.place (omega (arith, c.requires.room, c.told-room))
           (omega (arith, p.ensures.few, c.requires.room, p.array_long)) p.ensures.packed,
       omega (arith, p.ensures.few, c.requires.room),

@@ -16,8 +16,7 @@ returns-clause-gathers c =
     let l = c.look_rest-rest.ensures in
     let size : c.len.result ≡ length (text_of c.args.self.now) = c.len.ensures ∙ ap length l.text in
     let packed : (c.in_ok-end.end ≤ 512) × IsLast c.look_rest-rest.result.now c.args.room.now c.pack_last-marks.new.room
-    c.args.len c.in_ok-end.end = rw c.in_ok-end.was at c.pack_last-marks.ensures.packed in
-    (
+    c.args.len c.in_ok-end.end = rw c.in_ok-end.was at c.pack_last-marks.ensures.packed in (
       gathers_rest packed.1 l.bytes (omega (arith, c.requires.rest.0))
           (record { text_stays = l.text; looks_grow = omega (arith, l.looks, c.requires.rest.0) }) size,
       packed.0,
