@@ -26,7 +26,7 @@ pub(crate) const BUFFER_LEN: usize = 512;
 const ESCAPE: usize = 3;
 
 /// With this many marks in a block, it is faster to decode its escapes in lanes than one by one.
-const SEVERAL: u32 = 3;
+const SEVERAL: u32 = 4;
 
 /// With this many marks in the last block, which is shorter, the same is true.
 const MANY: u32 = 6;
@@ -139,7 +139,7 @@ impl<'a> Cursor<'a> {
         let mut from = self.place;
         loop {
             let mark = self.block.next_mark(&mut self.source, from);
-            match self.source.stop_at(mark) {
+            match self.source.stop_at(mark, false) {
                 Stop::Stays => from = mark + 1,
                 Stop::Passed if mark == self.place => {
                     self.place = mark + 1;
@@ -197,7 +197,7 @@ impl<'a> Cursor<'a> {
                 return self.spaced_to(from, Ahead::Unknown);
             }
             let mark = self.block.next_mark(&mut self.source, from);
-            match self.source.stop_at(mark) {
+            match self.source.stop_at(mark, false) {
                 Stop::Stays => from = mark + 1,
                 Stop::Passed => from = mark + 1,
                 Stop::Escape(value, end) => {
@@ -317,7 +317,15 @@ impl<'a> Cursor<'a> {
             return None;
         }
         if self.place >= self.block.seen {
-            if let Some(more) = self.pack_next(room, len) {
+            if self.source.len() - self.place >= 2 * BLOCK {
+                let bytes = self.look_whole();
+                if self.block.marks.count_ones() < SEVERAL {
+                    return self.gather_sparse(room, len);
+                }
+                if let Some(more) = self.pack_marked(bytes, room, len) {
+                    return Some(more);
+                }
+            } else if let Some(more) = self.pack_next(room, len) {
                 return Some(more);
             }
         }
@@ -330,6 +338,25 @@ impl<'a> Cursor<'a> {
         } else {
             self.gather_block(room, len, true)
         })
+    }
+
+    /// Gathers a block with few marks, which another block follows, after the bytes that were gathered before. Returns how many
+    /// bytes are gathered then, or None if a long stretch begins.
+    #[inline(always)]
+    fn gather_sparse(&mut self, room: &mut [u8; BUFFER_LEN], len: usize) -> Option<usize>
+        requires may { MayGather self.old len }
+        requires here { self.old.place < self.old.block.seen }
+        requires wide { IsWide self.old false }
+        ensures gathering { Gathering self.new }
+        ensures gathers { Gathers self.old self.new room.old room.new len
+            (option_map_or (λ n. n) result len) }
+        ensures few { IfSome result (λ n. n ≤ 512) }
+        ensures moves { IfSome result (λ _. Moves self.old self.new) }
+    {
+        if len == 0 && self.block.marks == 0 {
+            return None;
+        }
+        Some(self.gather_block(room, len, false))
     }
 
     /// Returns whether the body ends at the place.
@@ -349,8 +376,8 @@ impl<'a> Cursor<'a> {
         true
     }
 
-    /// Reads the next block, and packs it if it has several marks. Returns how many bytes are gathered then, or None if the
-    /// block is not packed.
+    /// Reads the next block, after which no whole one follows, and packs it if it has several marks. Returns how many bytes are
+    /// gathered then, or None if the block is not packed.
     #[inline(always)]
     fn pack_next(&mut self, room: &mut [u8; BUFFER_LEN], len: usize) -> Option<usize>
         requires looking { Looking self.old.source self.old.block self.old.place 0 }
@@ -536,12 +563,13 @@ impl<'a> Cursor<'a> {
     fn gather_stop(&mut self, room: &mut [u8; BUFFER_LEN], len: usize, dense: bool) -> (usize, bool)
         requires may { MayGather self.old len }
         requires here { self.old.place < self.old.block.seen }
+        requires wide { IsWide self.old dense }
         requires marked { is_marked (slice_index (text_of self.old) self.old.place) ≡ true }
         ensures gathers { Gathers self.old self.new room.old room.new len result.0 }
         ensures goes { IsGathered self.old self.new result.0 result.1 }
     {
         let mark = self.place;
-        match self.source.stop_at(mark) {
+        match self.source.stop_at(mark, !dense) {
             Stop::Stays => {
                 room[len] = b'%';
                 self.place = mark + 1;

@@ -2,7 +2,7 @@
 
 #![tactic(auto, using(crate::proofs::escapes::Reading::stops))]
 
-ghost use Rattle.std.specs.Prelude.{◌≡◌, ◌^◌, ◌<◌, ◌≤◌, MatchOption, length, slice_index, true};
+ghost use Rattle.std.specs.Prelude.{IsTrue, ◌≡◌, ◌+◌, ◌^◌, ◌<◌, ◌≤◌, MatchOption, length, slice_index, true};
 ghost use Rattle.data_url.specs.Steps.Walk.{IsClear, IsNextMark, IsStop, Looking, LooksOn};
 ghost use Rattle.data_url.specs.Steps.Window.{is_marked};
 
@@ -72,10 +72,12 @@ impl Block {
 }
 
 impl<'a> Source<'a> {
-    /// What begins at a marked byte, or that the text ends.
+    /// What begins at a marked byte, or that the text ends. If the byte is `followed` by two bytes or more, it is faster: whether
+    /// the text ends is not tested.
     #[inline(always)]
-    pub(super) fn stop_at(&mut self, mark: usize) -> Stop
+    pub(super) fn stop_at(&mut self, mark: usize, followed: bool) -> Stop
         requires within { mark ≤ length self.old.text.now }
+        requires room { IsTrue followed → mark + 3 ≤ length self.old.text.now }
         requires marked { mark < length self.old.text.now
             → is_marked (slice_index self.old.text.now mark) ≡ true }
         ensures text { self.new.text.now ≡ self.old.text.now }
@@ -83,12 +85,12 @@ impl<'a> Source<'a> {
         ensures looks { self.old.looks ≤ self.new.looks }
         ensures stop { IsStop self.old.text.now mark self.old.looks self.new.looks result }
     {
-        if mark >= self.len() {
+        if !followed && mark >= self.len() {
             return Stop::End;
         }
         let byte = self.look(mark);
         if byte == b'%' {
-            return match self.escape(mark) {
+            return match self.escape(mark, followed) {
                 Some((value, end)) => Stop::Escape(value, end),
                 None => Stop::Stays,
             };
