@@ -28,11 +28,9 @@ const ESCAPE: usize = 3;
 /// With this many marks in a block, it is faster to decode its escapes in lanes than one by one.
 const SEVERAL: u32 = 4;
 
-/// With this many marks in the last block, which is shorter, the same is true.
-const MANY: u32 = 6;
-
-/// With this many marks in a block, those escapes of it that are not decoded in lanes are likely to follow one another.
-const DENSE: u32 = 14;
+/// With this many marks in a block, those escapes of it that are not decoded in lanes are likely to follow one another. A block
+/// of escapes alone has 21.
+const DENSE: u32 = 18;
 
 /// With fewer bytes before the first stop of a block, its escapes are decoded one by one.
 const FEW: usize = 16;
@@ -425,12 +423,13 @@ impl<'a> Cursor<'a> {
         bytes
     }
 
-    /// Packs the rest of the text, which is shorter than a block, if it has many marks and no stop.
+    /// Packs the rest of the text, which is shorter than a block, if it has several marks and no stop.
     #[inline(always)]
     fn pack_rest(&mut self, room: &mut [u8; BUFFER_LEN], len: usize) -> Option<usize>
         requires looking { Looking self.old.source self.old.block self.old.place 0 }
         requires unknown { self.old.ahead ≡ Ahead.Unknown }
-        requires rest { (self.old.place < length (text_of self.old)) × (length (text_of self.old) < self.old.place + 64) }
+        requires rest { (self.old.place < length (text_of self.old))
+            × (length (text_of self.old) < self.old.place + 64) }
         requires unseen { self.old.block.seen ≤ self.old.place }
         requires room { len ≤ 384 }
         ensures looking { Looking self.new.source self.new.block self.new.place 0 }
@@ -645,7 +644,7 @@ fn pack_front(
     pack_block(values, dropped, &mut room[..], len)
 }
 
-/// Returns the marks of the last bytes of a text, which are fewer than 64, and, if they are many and there is no stop, how many
+/// Returns the marks of the last bytes of a text, which are fewer than 64, and, if they are several and there is no stop, how many
 /// bytes are gathered after these are packed.
 #[inline(never)]
 fn pack_last(rest: &[u8], room: &mut [u8; BUFFER_LEN], len: usize) -> (u64, Option<usize>)
@@ -657,7 +656,7 @@ fn pack_last(rest: &[u8], room: &mut [u8; BUFFER_LEN], len: usize) -> (u64, Opti
 {
     let bytes = padded(rest);
     let marks = marks_of(bytes, false);
-    if marks.count_ones() < MANY {
+    if marks.count_ones() < SEVERAL {
         return (marks, None);
     }
     let percents = bits_of(bytes, b'%');
