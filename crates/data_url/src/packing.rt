@@ -7,7 +7,7 @@ ghost use Rattle.std.specs.List.{range_with_len};
 ghost use Rattle.std.specs.Simd.Lanes.{Each1};
 ghost use Rattle.data_url.specs.Steps.Groups.{clear};
 
-use crate::classes::lanes::row;
+use crate::classes::lanes::{put, row};
 use std::simd::prelude::*;
 
 /// Has, for each number of eight bits, the places of its bits that are 0, and then zeros: eight bytes. Sixteen are read.
@@ -89,15 +89,6 @@ fn clear_places(eight: usize) -> (u8x16, usize)
     ensures places { take result.1 result.0 ≡ clear (range_with_len 0 8) eight }
 {
     (row(&PLACES, 8 * eight), 8 - eight.count_ones() as usize)
-}
-
-/// Writes a row at a place.
-#[inline(always)]
-fn put(bytes: &mut [u8], at: usize, row: u8x16)
-    requires { at + 16 ≤ length bytes.old }
-    ensures { take (at + 16) bytes.new ≡ take at bytes.old ++ row }
-{
-    row.copy_to_slice(&mut bytes[at..]);
 }
 
 /// Writes the bytes of a row whose bits are 0 at a place, and returns the place after them. Up to sixteen bytes after that

@@ -50,4 +50,5 @@ stops (b ∷ s) = ((b == number_sign) || ((b == percent_sign) && is_unsure s)) �
 -- the values at the first places of a block, without those of the digits of escapes, and without tabs and newlines
 abbrev pub front_values : List ℕ → ℕ → List ℕ
 front_values bytes used =
-    clear (take used (place_values bytes)) (6 * mask_l (escape_starts bytes) + mask_l (map is_tab_or_newline bytes))
+    clear (take used (place_values bytes))
+    (6 * mask_l (escape_starts bytes) + mask_l (map is_tab_or_newline bytes))

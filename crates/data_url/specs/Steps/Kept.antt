@@ -45,5 +45,6 @@ pub record SkipsTo (bytes : List ℕ) (b from to end : ℕ) : Type 0 where
 pub record IsIndexed (kept : KeptParameters) : Type 0 where
   pub lower : HasLowercaseNames (pairs_of kept)
   pub room : length kept.fingerprints ≡ FINGERPRINTS_LEN
-  pub alike : AreFingerprints (take (length (first_of (pairs_of kept))) kept.fingerprints) (first_of (pairs_of kept))
+  pub alike : AreFingerprints (take (length (first_of (pairs_of kept))) kept.fingerprints)
+      (first_of (pairs_of kept))
   pub later : HasLaterNames kept.later_names (pairs_of kept)

@@ -1,6 +1,6 @@
 //! Classes of bytes, sixteen bytes at a time.
 
-ghost use Rattle.std.specs.Prelude.{◌≡◌, ◌+◌, ◌≤◌, drop, length, map, not, take};
+ghost use Rattle.std.specs.Prelude.{◌≡◌, ◌+◌, ◌++◌, ◌≤◌, drop, length, map, not, take};
 ghost use Rattle.std.specs.List.{list_all};
 ghost use Rattle.std.specs.Simd.Lanes.{mask_l};
 ghost use Rattle.data_url.specs.Steps.Classes.{AreOf, is_marked, looked_up};
@@ -21,6 +21,15 @@ pub(crate) fn row(text: &[u8], at: usize) -> u8x16
     ensures { result ≡ take 16 (drop at text.now) }
 {
     u8x16::from_slice(&text[at..])
+}
+
+/// Writes a row at a place.
+#[inline(always)]
+pub(crate) fn put(bytes: &mut [u8], at: usize, row: u8x16)
+    requires { at + 16 ≤ length bytes.old }
+    ensures { take (at + 16) bytes.new ≡ take at bytes.old ++ row }
+{
+    row.copy_to_slice(&mut bytes[at..]);
 }
 
 /// Looks up both halves of each byte of a row. Returns the bits that their entries have in common: none only where the

@@ -104,10 +104,9 @@ impl<'a> Source<'a> {
         rest
     }
 
-    /// Reads the block of at most 64 bytes at a place. Each of its bytes counts as a look. It is faster if `sparse` says
-    /// whether the block is likely to have no mark.
+    /// Reads the block of at most 64 bytes at a place. Each of its bytes counts as a look. It is faster if the block has no mark.
     #[inline(always)]
-    pub(super) fn look_block(&mut self, place: usize, sparse: bool) -> Block
+    pub(super) fn look_block(&mut self, place: usize) -> Block
         requires { place ≤ length self.old.text.now }
         ensures base { result.base ≡ place }
         ensures seen { result.seen ≡ min (place + 64) (length self.old.text.now) }
@@ -121,7 +120,7 @@ impl<'a> Source<'a> {
         Block {
             base: place,
             seen: place + len,
-            marks: first_marks(rest, sparse),
+            marks: first_marks(rest),
         }
     }
 
@@ -186,13 +185,13 @@ pub(crate) fn fragment_at(text: &str, place: usize) -> Option<&str>
 
 /// Returns the marks of the first 64 bytes, or of fewer.
 #[inline(always)]
-fn first_marks(rest: &[u8], sparse: bool) -> u64
+fn first_marks(rest: &[u8]) -> u64
     ensures { result ≡ mask_l (map is_marked (take 64 rest.now)) }
 {
     if rest.len() < BLOCK {
         last_marks(rest)
     } else {
-        marks_of(u8x64::from_slice(&rest[..BLOCK]), sparse)
+        marks_of(u8x64::from_slice(&rest[..BLOCK]), true)
     }
 }
 

@@ -61,7 +61,7 @@ impl Block {
             place = self.seen;
         }
         while place < source.len() {
-            *self = source.look_block(place, true);
+            *self = source.look_block(place);
             if let Some(mark) = self.mark_from(source, place) {
                 return mark;
             }

@@ -6,7 +6,7 @@ ghost use Rattle.std.specs.Simd.Lanes.{mask_l};
 ghost use Rattle.data_url.specs.Base64.{groups, is_symbol, symbol_value};
 
 use super::alphabet::{decode_row, others};
-use crate::classes::lanes::row;
+use crate::classes::lanes::{put, row};
 use std::simd::prelude::*;
 
 /// Whether all of the first 64 bytes are symbols.
@@ -32,15 +32,6 @@ pub(crate) fn groups_ahead(bytes: u8x16) -> usize
         mask if mask % 256 == 0 => 2,
         _ => 1,
     }
-}
-
-/// Writes a row at a place.
-#[inline(always)]
-pub(crate) fn put(bytes: &mut [u8], at: usize, row: u8x16)
-    requires { at + 16 ≤ length bytes.old }
-    ensures { take (at + 16) bytes.new ≡ take at bytes.old ++ row }
-{
-    row.copy_to_slice(&mut bytes[at..]);
 }
 
 /// The bytes of the sixteen groups of the first 64 symbols.

@@ -4,9 +4,9 @@ ghost use Rattle.std.specs.Prelude.{◌≡◌, ◌%◌, ◌+◌, ◌≤◌, ◌<
 ghost use Rattle.std.specs.{Char.{is_ascii_whitespace}, List.{prefix_len}};
 
 use super::alphabet::{decode_row, group_of, is_of_symbols, is_symbol};
-use super::blocks::{groups_ahead, put};
+use super::blocks::groups_ahead;
 use super::spaced::without_spaces;
-use crate::classes::lanes::row;
+use crate::classes::lanes::{put, row};
 
 /// How many bytes of groups are held before the closure is called with them: those of 64 groups. With one piece, 16
 /// groups, lines of 76 symbols take a fifth longer.

@@ -6,8 +6,7 @@ ghost use Rattle.data_url.specs.Base64.{is_symbol};
 ghost use Rattle.data_url.specs.Steps.Groups.{clear, is_symbol_or_space};
 
 use super::alphabet::{is_spaced, others};
-use super::blocks::put;
-use crate::classes::lanes::row;
+use crate::classes::lanes::{put, row};
 use std::simd::prelude::*;
 
 /// Has, for each number of four bits, the places of its bits that are 0, and then zeros: four bytes. Sixteen are read.
