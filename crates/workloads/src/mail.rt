@@ -4,7 +4,7 @@ use crate::bench::Bench;
 use crate::pages::rows;
 use std::alloc::AllocError;
 
-/// Decodes texts of base64: of ten, four are short, four are whole attachments, and two come in parts.
+/// Decodes texts of base64: of twenty, fourteen are short, three are whole attachments, and three come in parts.
 pub(crate) fn run(bench: &mut Bench, count: u64) -> Result<(), AllocError> {
     let clean = rows(bench, 512, "", 1)?;
     let short = rows(bench, 20, "", 1)?;
