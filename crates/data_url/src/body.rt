@@ -11,9 +11,12 @@ ghost use Rattle.data_url.specs.Decoder.{state_of};
 use crate::escapes::{BUFFER_LEN, Pieces};
 use crate::forgiving_base64::{DecodeError, Decoder};
 
+/// In lines of fewer symbols, and in those that end inside a group, it is faster to take out newlines before the decoder is fed.
+const NARROW: usize = 32;
+
 /// Calls a closure with the prefix of a body and the pieces after it, until it returns an error. Returns this error, or the
-/// place in the text where the body ends. If the body is base64, the pieces up to its first escape keep their tabs and newlines,
-/// which the decoder skips faster than they are taken out.
+/// place in the text where the body ends. If the body is base64 in lines that suit the decoder, the pieces up to its first escape
+/// keep their tabs and newlines: it skips them faster than they are taken out.
 fn decode_pieces<F, E>(
     prefix: &[u8],
     mut pieces: Pieces<'_>,
@@ -32,14 +35,13 @@ where
     if pieces.has_ended() {
         return Ok(pieces.end());
     }
-    let mut spaced = base64;
+    let mut spaced = base64 && prefix.len() >= NARROW && prefix.len() % 4 == 0;
     let mut room = [0; BUFFER_LEN];
     'chunks: while !pieces.has_ended() {
-        let Some(bytes) = pieces.next_chunk(&mut room, spaced) else {
+        let Some(bytes) = pieces.next_chunk(&mut room, &mut spaced) else {
             break 'chunks;
         };
         take(bytes)?;
-        spaced = spaced && !pieces.is_at_escape();
     }
     Ok(pieces.end())
 }

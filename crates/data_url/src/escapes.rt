@@ -129,29 +129,26 @@ impl<'a> Pieces<'a> {
         stretch
     }
 
-    /// Returns the next bytes of a body, or None if it has ended. If they are to be `spaced`, they may have tabs and newlines between
-    /// them.
+    /// Returns the next bytes of a body, or None if it has ended. While `spaced` is true, there may be tabs and newlines between
+    /// them. It becomes false at the first escape.
     #[inline(always)]
     pub(crate) fn next_chunk<'r>(
         &mut self,
         room: &'r mut [u8; BUFFER_LEN],
-        spaced: bool,
+        spaced: &mut bool,
     ) -> Option<&'r [u8]>
     where
         'a: 'r,
-        ensures { GivesBytes spaced self.old result self.new }
+        ensures gives { GivesBytes spaced.old self.old result self.new }
+        ensures spaced { spaced.new ≡ true → spaced.old ≡ true }
     {
-        if spaced {
+        if *spaced {
             if let Some(stretch) = self.next_spaced() {
                 return Some(stretch);
             }
+            *spaced = false;
         }
         self.next_bytes(room)
-    }
-
-    /// Returns whether the walk is known to be at an escape.
-    pub(crate) fn is_at_escape(&self) -> bool {
-        matches!(self.cursor.ahead, Ahead::Escape(..))
     }
 
     /// Returns whether the walk is known to be at the end of the body.

@@ -23,7 +23,7 @@ pub record Spans (text : List ℕ) (from to : ℕ) : Type 0 where
   pub after_is : after number_sign (drop from text) ≡ after number_sign (drop to text)
 
 -- the walk w returns these bytes of its body, at least one, and is w' after that; if white space does not count, the
--- bytes may have some that the body does not have
+-- bytes and the body may differ in it
 pub record Takes (spaced : Bool) (w : Walk) (bytes : List ℕ) (w' : Walk) : Type 0 where
   pub text_stays : w'.text ≡ w.text
   pub rest_is : IsAlike spaced w.rest (bytes ++ w'.rest)

@@ -1,4 +1,4 @@
-//! Classes of bytes, sixteen bytes at a time.
+//! Rows of sixteen bytes: how they are read and written, and the classes of their bytes.
 
 ghost use Rattle.std.specs.Prelude.{◌≡◌, ◌+◌, ◌++◌, ◌≤◌, drop, length, map, not, take};
 ghost use Rattle.std.specs.List.{list_all};

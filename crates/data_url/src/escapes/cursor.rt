@@ -9,7 +9,7 @@ ghost use Rattle.data_url.specs.Pieces.{is_slice_end, text_of, walk_at_start, wa
 ghost use Rattle.data_url.specs.Steps.Chunks.{GivesBytes, GivesSpaced, IsBodyPrefix, Spans};
 ghost use Rattle.data_url.specs.Steps.Escapes.{front_values};
 ghost use Rattle.data_url.specs.Url.{is_tab_or_newline, percent_sign};
-ghost use Rattle.data_url.specs.Steps.Walk.{Gathering, Gathers, GoesOn, HasRoom, IsGathered, IsLast, IsPart, IsWhole, IsWide, Knows, KnowsAhead, Looking, LooksOn, MayGather, Moves, Searching, Spells};
+ghost use Rattle.data_url.specs.Steps.Walk.{Gathering, Gathers, GoesOn, HasRoom, IsClear, IsGathered, IsLast, IsPart, IsWhole, IsWide, Knows, KnowsAhead, Looking, LooksOn, MayGather, Moves, Searching, Spells};
 ghost use Rattle.data_url.specs.Steps.Window.{is_marked};
 
 use super::Piece;
@@ -29,7 +29,7 @@ const ESCAPE: usize = 3;
 const SEVERAL: u32 = 4;
 
 /// With this many marks in a block, those escapes of it that are not decoded in lanes are likely to follow one another. A block
-/// of escapes alone has 21.
+/// of escapes alone has 21 or 22.
 const DENSE: u32 = 18;
 
 /// With fewer bytes before the first stop of a block, its escapes are decoded one by one.
@@ -194,6 +194,10 @@ impl<'a> Cursor<'a> {
             if from - self.place >= LONG {
                 return self.spaced_to(from, Ahead::Unknown);
             }
+            if self.is_clear(from) {
+                from = self.block.seen;
+                continue;
+            }
             let mark = self.block.next_mark(&mut self.source, from);
             match self.source.stop_at(mark, false) {
                 Stop::Stays => from = mark + 1,
@@ -206,8 +210,8 @@ impl<'a> Cursor<'a> {
         }
     }
 
-    /// Skips whole blocks without `#` and `%` from a place on, if the last block was read to its end, until the stretch is long.
-    /// Returns the place after them.
+    /// Skips whole blocks without a byte from `#` to `%` from a place on, if the last block was read to its end, until the
+    /// stretch is long. Returns the place after them. If a block with such a byte comes there, it is now the last block.
     #[inline(always)]
     fn skip_plain(&mut self, from: usize) -> usize
         requires looking { Looking self.old.source self.old.block from 0 }
@@ -239,6 +243,17 @@ impl<'a> Cursor<'a> {
             };
         }
         end
+    }
+
+    /// Returns whether a part of the last block is left from a place on, and has no mark.
+    #[inline(always)]
+    fn is_clear(&self, from: usize) -> bool
+        requires looking { Looking self.now.source self.now.block from 0 }
+        ensures looking { result ≡ true → Looking self.now.source self.now.block self.now.block.seen 0 }
+        ensures further { result ≡ true → from < self.now.block.seen }
+        ensures clear { result ≡ true → IsClear (text_of self.now) from self.now.block.seen }
+    {
+        from < self.block.seen && self.block.mark_from(&self.source, from).is_none()
     }
 
     /// The stretch from the place up to another one, of which something is known, if it is not empty. The walk goes on there.
@@ -644,8 +659,8 @@ fn pack_front(
     pack_block(values, dropped, &mut room[..], len)
 }
 
-/// Returns the marks of the last bytes of a text, which are fewer than 64, and, if they are several and there is no stop, how many
-/// bytes are gathered after these are packed.
+/// Returns the marks of the last bytes of a text, which are fewer than 64. If they are several and there is no stop, the
+/// bytes are packed. Then also returns how many are gathered.
 #[inline(never)]
 fn pack_last(rest: &[u8], room: &mut [u8; BUFFER_LEN], len: usize) -> (u64, Option<usize>)
     requires rest { (0 < length rest.now) × (length rest.now < 64) }

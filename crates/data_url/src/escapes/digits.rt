@@ -37,7 +37,7 @@ fn digit_code(byte: u8) -> u8
 
 impl<'a> Source<'a> {
     /// Returns the byte of the escape whose `%` is at a place, past tabs and newlines, and the place after it. If the `%` is
-    /// `followed` by two bytes or more, it is faster: whether the text ends is not tested before each digit.
+    /// `followed` by two bytes or more, it is faster: whether the text ends is not tested before a digit that comes at once.
     #[inline(always)]
     pub(super) fn escape(&mut self, place: usize, followed: bool) -> Option<(u8, usize)>
         requires within { place < length self.old.text.now }

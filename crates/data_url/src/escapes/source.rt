@@ -104,7 +104,8 @@ impl<'a> Source<'a> {
         rest
     }
 
-    /// Reads the block of at most 64 bytes at a place. Each of its bytes counts as a look. It is faster if the block has no mark.
+    /// Reads the block of at most 64 bytes at a place. Each of its bytes counts as a look. It is faster if all are greater
+    /// than `%`, as symbols of base64 are.
     #[inline(always)]
     pub(super) fn look_block(&mut self, place: usize) -> Block
         requires { place ≤ length self.old.text.now }

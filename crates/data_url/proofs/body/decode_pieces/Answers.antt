@@ -22,7 +22,7 @@ chunks-init g c = (
     | goal.else-not-is_empty w ↦
         rw w.take-is (going_none (CalledAt g.F.FnMut) c.args.base64 c.args.prefix.now c.requires.prefix (grind arith))
   ],
-  λ e. e,
+  grind arith,
 )
 
 pub returns-then-has_ended : goal.returns-then-has_ended
@@ -40,7 +40,7 @@ pub chunks-preserved : goal.chunks-preserved
 chunks-preserved g c =
     let i = c.chunks.invariant in
     let takes = takes_weaker c.chunks.spaced c.args.base64 i.1
-    (takes_next c.chunks.spaced c.next_chunk.ensures c.in-Some.is) in (
+    (takes_next c.chunks.spaced c.next_chunk.ensures.gives c.in-Some.is) in (
       going_more (CalledAt g.F.FnMut) c.args.base64 (Ok tt) i.0 takes
           (record { shown = _; shows = refl; called = c.in_ok-take-2.ensures }),
       grind arith,
@@ -50,5 +50,5 @@ pub returns-in_err-take-2 : goal.returns-in_err-take-2
 returns-in_err-take-2 g c =
     let p = err_from_is_err_and c.from_residual-in_err-take-2.result c.from_residual-in_err-take-2.ensures.1 in
     rw (p.1, p.2) (took_refused (CalledAt g.F.FnMut) c.args.base64 (going_more (CalledAt g.F.FnMut) c.args.base64 (Err c.in_err-take-2.field-0.0)
-    c.chunks.invariant.0 (takes_weaker c.chunks.spaced c.args.base64 c.chunks.invariant.1 (takes_next c.chunks.spaced c.next_chunk.ensures c.in-Some.is))
+    c.chunks.invariant.0 (takes_weaker c.chunks.spaced c.args.base64 c.chunks.invariant.1 (takes_next c.chunks.spaced c.next_chunk.ensures.gives c.in-Some.is))
     (record { shown = _; shows = refl; called = c.in_err-take-2.ensures })))

@@ -1,6 +1,7 @@
 use Rattle.std.proofs.Common.{◌∙◌, arith, refl}
 use Rattle.data_url.proofs.escapes.Walking.{ended_at, knows_spaced, looking_paid, looks_then, spans_mark, spans_on}
 use Rattle.data_url.proofs.escapes.Walking.{spans_spelled, spans_then}
+use Rattle.data_url.proofs.escapes.Reading.{spells_clear}
 use Rattle.data_url.proofs.escapes.cursor.Cursor.next_spaced.Goals as goal
 
 pub loop-from-preserved-in-Stays : goal.loop-from-preserved-in-Stays
@@ -80,3 +81,14 @@ returns-in-End-clause-knows c =
     let s = rw text at (spans_mark on m.on (spans_on i.on i.spans k.spans) m.mark) in
     rw c.spaced_to-in-End.ensures.walk (knows_spaced c.requires s (t ∙ text)
     (ended_at m.looking t stop.1 stop.2 refl))
+
+pub loop-from-preserved-then-is_clear : goal.loop-from-preserved-then-is_clear
+loop-from-preserved-then-is_clear c =
+    let i = c.loop-from.invariant in
+    let k = c.skip_plain-from.ensures in
+    let e = c.if-is_clear.ensures in
+    let looking = e.looking refl in
+    let on = looks_then i.on k.on in
+    let clear = spans_spelled
+    (spells_clear _ _ _ (omega (arith, e.further refl)) looking.within (e.clear refl)) in
+    let s = spans_on on (spans_on i.on i.spans k.spans) clear in grind arith
