@@ -200,8 +200,7 @@ impl<'a> Cursor<'a> {
             }
             let mark = self.block.next_mark(&mut self.source, from);
             match self.source.stop_at(mark, false) {
-                Stop::Stays => from = mark + 1,
-                Stop::Passed => from = mark + 1,
+                Stop::Stays | Stop::Passed => from = mark + 1,
                 Stop::Escape(value, end) => {
                     return self.spaced_to(mark, Ahead::Escape(value, end));
                 }

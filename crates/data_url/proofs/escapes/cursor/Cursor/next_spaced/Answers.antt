@@ -1,30 +1,26 @@
-use Rattle.std.proofs.Common.{◌∙◌, arith, refl}
+use Rattle.std.proofs.Common.{◌∙◌, arith, inl, inr, refl}
 use Rattle.data_url.proofs.escapes.Walking.{ended_at, knows_spaced, looking_paid, looks_then, spans_mark, spans_on}
 use Rattle.data_url.proofs.escapes.Walking.{spans_spelled, spans_then}
 use Rattle.data_url.proofs.escapes.Reading.{spells_clear}
 use Rattle.data_url.proofs.escapes.cursor.Cursor.next_spaced.Goals as goal
-
-pub loop-from-preserved-in-Stays : goal.loop-from-preserved-in-Stays
-loop-from-preserved-in-Stays c =
-    let i = c.loop-from.invariant in
-    let k = c.skip_plain-from.ensures in
-    let m = c.next_mark-mark.ensures in
-    let stop = c.in-Stays.ensures.stop in
-    let looking = looking_paid {s' = c.stop_at.new.self} m.looking c.stop_at.ensures.text stop.2 in
-    let on = looks_then i.on k.on in
-    let s = spans_then (spans_mark on m.on (spans_on i.on i.spans k.spans) m.mark) (spans_spelled stop.1) in
-    let t = rw (m.on.text_stays ∙ on.text_stays) at s in grind arith
 
 pub loop-from-preserved : goal.loop-from-preserved
 loop-from-preserved c =
     let i = c.loop-from.invariant in
     let k = c.skip_plain-from.ensures in
     let m = c.next_mark-mark.ensures in
-    let stop = c.in-Passed.ensures.stop in
-    let looking = looking_paid {s' = c.stop_at.new.self} m.looking c.stop_at.ensures.text stop.2 in
     let on = looks_then i.on k.on in
-    let s = spans_then (spans_mark on m.on (spans_on i.on i.spans k.spans) m.mark) (spans_spelled stop.1) in
-    let t = rw (m.on.text_stays ∙ on.text_stays) at s in grind arith
+    let mark = spans_mark on m.on (spans_on i.on i.spans k.spans) m.mark in
+    elim c.in-Stays.is [
+      | inl e ↦
+          let stop = rw e at c.stop_at.ensures.stop in
+          let looking = looking_paid {s' = c.stop_at.new.self} m.looking c.stop_at.ensures.text stop.2 in
+          let t = rw (m.on.text_stays ∙ on.text_stays) at (spans_then mark (spans_spelled stop.1)) in grind arith
+      | inr e ↦
+          let stop = rw e at c.stop_at.ensures.stop in
+          let looking = looking_paid {s' = c.stop_at.new.self} m.looking c.stop_at.ensures.text stop.2 in
+          let t = rw (m.on.text_stays ∙ on.text_stays) at (spans_then mark (spans_spelled stop.1)) in grind arith
+    ]
 
 pub spaced_to-requires : goal.spaced_to-requires
 spaced_to-requires c =
