@@ -32,8 +32,9 @@ const SEVERAL: u32 = 4;
 /// of escapes alone has 21 or 22.
 const DENSE: u32 = 18;
 
-/// With fewer bytes before the first stop of a block, its escapes are decoded one by one.
-const FEW: usize = 16;
+/// With fewer bytes before the first stop of a block, or before the end of the text, escapes are decoded one by one. Four escapes
+/// have as many.
+const FEW: usize = 12;
 
 /// A stretch with tabs and newlines in it ends once it has at least this many bytes, so that a fault is found before much more
 /// of the text is read.
@@ -658,8 +659,8 @@ fn pack_front(
     pack_block(values, dropped, &mut room[..], len)
 }
 
-/// Returns the marks of the last bytes of a text, which are fewer than 64. If they are several and there is no stop, the
-/// bytes are packed. Then also returns how many are gathered.
+/// Returns the marks of the last bytes of a text, which are fewer than 64. If they are several, the bytes not few, and there is
+/// no stop, the bytes are packed. Then also returns how many are gathered.
 #[inline(never)]
 fn pack_last(rest: &[u8], room: &mut [u8; BUFFER_LEN], len: usize) -> (u64, Option<usize>)
     requires rest { (0 < length rest.now) × (length rest.now < 64) }
@@ -670,7 +671,7 @@ fn pack_last(rest: &[u8], room: &mut [u8; BUFFER_LEN], len: usize) -> (u64, Opti
 {
     let bytes = padded(rest);
     let marks = marks_of(bytes, false);
-    if marks.count_ones() < SEVERAL {
+    if rest.len() < FEW || marks.count_ones() < SEVERAL {
         return (marks, None);
     }
     let percents = bits_of(bytes, b'%');

@@ -2,8 +2,8 @@ use Rattle.std.proofs.Common.{arith, ◌∙◌, ◌%◌, ◌^◌, ◌≡◌, ap,
 use Rattle.data_url.proofs.escapes.Blocks.{rest_marks, rest_packed}
 use Rattle.data_url.proofs.escapes.cursor.pack_last.Goals as goal
 
-pub returns-then-marks-lt-SEVERAL-clause-marks : goal.returns-then-marks-lt-SEVERAL-clause-marks
-returns-then-marks-lt-SEVERAL-clause-marks c =
+pub returns-then-rest-lt-FEW-clause-marks : goal.returns-then-rest-lt-FEW-clause-marks
+returns-then-rest-lt-FEW-clause-marks c =
     rest_marks c.args.rest.now _ _ c.padded-bytes.ensures c.marks_of-marks.ensures
 
 pub returns-then-len_before_stop-rest-clause-marks : goal.returns-then-len_before_stop-rest-clause-marks
