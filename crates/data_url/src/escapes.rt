@@ -130,7 +130,7 @@ impl<'a> Pieces<'a> {
     }
 
     /// Returns the next bytes of a body, or None if it has ended. While `spaced` is true, there may be tabs and newlines between
-    /// them. It becomes false at the first escape.
+    /// them. It becomes false at the first escape, or at the end of the body.
     #[inline(always)]
     pub(crate) fn next_chunk<'r>(
         &mut self,

@@ -32,8 +32,8 @@ const SEVERAL: u32 = 4;
 /// of escapes alone has 21 or 22.
 const DENSE: u32 = 18;
 
-/// With fewer bytes before the first stop of a block, or before the end of the text, escapes are decoded one by one. Four escapes
-/// have as many.
+/// With fewer bytes before the first stop of a block, or before the end of the text, escapes are decoded one by one. Four
+/// escapes have twelve bytes.
 const FEW: usize = 12;
 
 /// A stretch with tabs and newlines in it ends once it has at least this many bytes, so that a fault is found before much more
