@@ -1,10 +1,16 @@
-//! Times each public call of the library beside the same call of the Rust crate `data-url`, or with the feature `against` of
-//! the library of another commit, and prints a table.
+//! Times a public call of the library beside the same call of the Rust crate `data-url`, or with the feature `against` of the
+//! library of another commit.
 //!
-//! In each round ours, theirs and a copy of the text are timed in turn, and what is printed are medians over the rounds: so a
-//! busy machine slows all of a round alike.
+//!     bench                 writes the names of the rows, a line each, and after a tab `slow` where one call takes seconds
+//!     bench NAME            writes the bytes of a text of a row, how often it was faster than its counterpart, and the
+//!                           nanoseconds of a call of each
+//!
+//! A row is as many texts of its kind, each from another seed, as have some 300 KB, and at most 150. In a round all are passed to
+//! the one library and then to the other. So no text comes twice in a round, and the processor does not learn its branches. What
+//! is written are medians over the rounds, so a busy machine slows all of a round alike.
 
-mod inputs;
+mod rows;
+mod texts;
 
 /// The calls of the library as it is.
 mod ours {
@@ -42,31 +48,41 @@ mod bindings {
     include!("calls.rs");
 }
 
-use inputs::{rows, Row};
+use rows::{rows, Row};
 use std::hint::black_box;
-use std::time::Instant;
+use std::time::{Duration, Instant};
+use texts::Numbers;
 
-/// How many rounds are timed, and about how many nanoseconds the crate's calls take in each.
-const ROUNDS: usize = 61;
-const ROUND: f64 = 600_000.0;
+/// How many bytes the texts of a row have, about, and how many texts there are at most.
+const BYTES: usize = 300_000;
+const TEXTS: usize = 150;
+
+/// How many rounds are timed at least and at most, and for how long the rounds between these go on.
+const ROUNDS: std::ops::Range<usize> = 15..301;
+const LONG_ENOUGH: Duration = Duration::from_millis(150);
 
 /// A call: it returns how many bytes its result has, and copies them to the output as far as they fit.
 type Call = fn(&[u8], &mut [u8]) -> usize;
 
-/// Returns the nanoseconds of one call, as the mean over `count` calls. A call before these is not timed: it brings the text
-/// into the caches, so that the order of the calls in a round does not matter.
-fn time(call: Call, text: &[u8], room: &mut [u8], count: usize) -> f64 {
-    black_box(call(black_box(text), black_box(&mut *room)));
-    let start = Instant::now();
-    for _ in 0..count {
-        black_box(call(black_box(text), black_box(&mut *room)));
-    }
-    start.elapsed().as_nanos() as f64 / count as f64
+/// The texts of a row.
+fn texts_of(row: &Row) -> Vec<Vec<u8>> {
+    let first = (row.make)(&mut Numbers::new(1));
+    let count = if row.is_slow {
+        1
+    } else {
+        (BYTES / first.len()).clamp(1, TEXTS)
+    };
+    let others = (2..=count as u64).map(|seed| (row.make)(&mut Numbers::new(seed)));
+    std::iter::once(first).chain(others).collect()
 }
 
-fn copy(text: &[u8], room: &mut [u8]) -> usize {
-    room[..text.len()].copy_from_slice(text);
-    text.len()
+/// Returns the nanoseconds that a call takes for all the texts.
+fn time(call: Call, texts: &[Vec<u8>], room: &mut [u8]) -> f64 {
+    let start = Instant::now();
+    for text in texts {
+        black_box(call(black_box(text), black_box(&mut *room)));
+    }
+    start.elapsed().as_nanos() as f64
 }
 
 fn median(values: &mut [f64]) -> f64 {
@@ -74,72 +90,71 @@ fn median(values: &mut [f64]) -> f64 {
     values[values.len() / 2]
 }
 
-/// Panics if the two calls of a row differ.
-fn compare(row: &Row) {
-    let mut ours = vec![0; row.text.len() + 4096];
-    let mut theirs = ours.clone();
-    for (mine, other) in [(row.ours, row.theirs), (row.shows_ours, row.shows_theirs)] {
-        let (len, their_len) = (mine(&row.text, &mut ours), other(&row.text, &mut theirs));
-        assert_eq!(len, their_len, "{}: how many bytes", row.name);
-        assert_ne!(len, usize::MAX, "{}: refused", row.name);
-        assert!(ours == theirs, "{}: the bytes", row.name);
+/// Panics if the two calls of a row differ on one of the texts.
+fn compare(row: &Row, texts: &[Vec<u8>]) {
+    for text in texts {
+        let mut ours = vec![0; text.len() + 4096];
+        let mut theirs = ours.clone();
+        for (mine, other) in [(row.ours, row.theirs), (row.shows_ours, row.shows_theirs)] {
+            let (len, their_len) = (mine(text, &mut ours), other(text, &mut theirs));
+            assert_eq!(len, their_len, "{}: how many bytes", row.name);
+            assert_ne!(len, usize::MAX, "{}: refused", row.name);
+            assert!(ours == theirs, "{}: the bytes", row.name);
+        }
+    }
+}
+
+/// Times a round: both calls, in turn the one or the other first. Returns the nanoseconds of each.
+fn time_both(row: &Row, texts: &[Vec<u8>], room: &mut [u8], is_first: bool) -> (f64, f64) {
+    if is_first {
+        let ours = time(row.ours, texts, room);
+        (ours, time(row.theirs, texts, room))
+    } else {
+        let theirs = time(row.theirs, texts, room);
+        (time(row.ours, texts, room), theirs)
     }
 }
 
 fn measure(row: &Row) {
-    let mut copied = vec![0; row.text.len() + 4096];
+    let texts = texts_of(row);
+    let longest = texts.iter().map(Vec::len).max().unwrap();
     let mut room = vec![
         0;
         if row.is_timed_with_room {
-            copied.len()
+            longest + 4096
         } else {
             0
         }
     ];
-    let (count, rounds) = if row.is_slow {
-        (1, 1)
-    } else {
-        let one = time(row.theirs, &row.text, &mut room, 1);
-        (((ROUND / one) as usize).max(1), ROUNDS)
-    };
-    let (mut ours, mut theirs, mut copies, mut times) = (vec![], vec![], vec![], vec![]);
-    for _ in 0..rounds {
-        let mine = time(row.ours, &row.text, &mut room, count);
-        let other = time(row.theirs, &row.text, &mut room, count);
-        copies.push(time(copy, &row.text, &mut copied, count));
+    let rounds = if row.is_slow { 1..1 } else { ROUNDS };
+    if !row.is_slow {
+        compare(row, &texts);
+    }
+    let (mut ours, mut theirs, mut times) = (vec![], vec![], vec![]);
+    let start = Instant::now();
+    while ours.len() < rounds.start || ours.len() < rounds.end && start.elapsed() < LONG_ENOUGH {
+        let (mine, other) = time_both(row, &texts, &mut room, ours.len() % 2 == 0);
         times.push(other / mine);
         ours.push(mine);
         theirs.push(other);
     }
-    let len = row.text.len() as f64;
-    let (ours, theirs) = (median(&mut ours), median(&mut theirs));
+    let count = texts.len() as f64;
+    let bytes = texts.iter().map(Vec::len).sum::<usize>() / texts.len();
     println!(
-        "{:<44} {:>8} {:>7.2} {:>10.3} {:>10.3} {:>8.3} {:>12.0}",
-        row.name,
-        row.text.len(),
+        "{bytes} {} {} {}",
         median(&mut times),
-        ours / len,
-        theirs / len,
-        median(&mut copies) / len,
-        ours
+        median(&mut ours) / count,
+        median(&mut theirs) / count
     );
 }
 
 fn main() {
-    let words: Vec<String> = std::env::args().skip(1).collect();
-    let rows: Vec<Row> = rows()
-        .into_iter()
-        .filter(|row| words.iter().all(|word| row.name.contains(word.as_str())))
-        .filter(|row| !row.is_slow || !words.is_empty())
-        .collect();
-    for row in rows.iter().filter(|row| !row.is_slow) {
-        compare(row);
-    }
-    println!(
-        "{:<44} {:>8} {:>7} {:>10} {:>10} {:>8} {:>12}",
-        "row", "bytes", "times", "ours ns/B", "their ns/B", "copy", "ours ns"
-    );
-    for row in &rows {
-        measure(row);
+    let wanted = std::env::args().nth(1);
+    for row in rows() {
+        match &wanted {
+            None => println!("{}\t{}", row.name, if row.is_slow { "slow" } else { "" }),
+            Some(name) if *name == row.name => measure(&row),
+            Some(_) => {}
+        }
     }
 }
