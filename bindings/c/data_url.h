@@ -3,12 +3,18 @@
  * SYNOPSIS
  *
  *     #include "data_url.h"
- *     cc program.c -ldata_url
+ *     #include <stdio.h>
+ *     #include <string.h>
  *
- *     char body[4096];
- *     struct data_url_answer got = data_url_body("data:,Hello%20World!", 20, body, sizeof body);
- *     if (got.status == DATA_URL_DONE)
- *         fwrite(body, 1, got.len, stdout);
+ *     int main(void) {
+ *         const char *url = "data:text/plain;base64,SGVsbG8h#part";
+ *         char body[64];
+ *         struct data_url_answer got = data_url_body(url, strlen(url), body, sizeof body);
+ *         if (got.status != DATA_URL_DONE) return 1;
+ *         printf("%.*s, %zu bytes\n", (int)got.len, body, got.len);
+ *     }
+ *
+ * Build it with `cc program.c -ldata_url`.
  *
  * WHOLE TEXTS. Each of these takes a text and an output, and returns a status and a length:
  *
@@ -25,15 +31,59 @@
  *     data_url_base64_feed    the next part of a text of base64
  *     data_url_base64_finish  the end of that text
  *
- *     struct data_url_opened url = data_url_open(text, len, NULL, 0);
- *     if (url.status != DATA_URL_DONE && url.status != DATA_URL_OUTPUT_TOO_SMALL) return url.status;
- *     struct data_url_body_state state = {.is_base64 = url.is_base64};
- *     struct data_url_answer part;
- *     do {
- *         part = data_url_body_next(&state, text + url.tail, url.tail_len, room, sizeof room);
- *         fwrite(room, 1, part.len, file);
- *     } while (part.status == DATA_URL_MORE);
- *     return part.status;
+ * This program writes the body of the URL on standard input:
+ *
+ *     #include "data_url.h"
+ *     #include <stdio.h>
+ *
+ *     static uint32_t write_body(const char *url, size_t len, FILE *file) {
+ *         static char room[65536];
+ *         struct data_url_opened opened = data_url_open(url, len, NULL, 0);
+ *         if (opened.status != DATA_URL_DONE && opened.status != DATA_URL_OUTPUT_TOO_SMALL) return opened.status;
+ *         struct data_url_body_state state = DATA_URL_BODY_STATE(opened.is_base64);
+ *         struct data_url_answer part;
+ *         do {
+ *             part = data_url_body_next(&state, url + opened.tail, opened.tail_len, room, sizeof room);
+ *             if (part.status == DATA_URL_OUTPUT_TOO_SMALL) return part.status;
+ *             fwrite(room, 1, part.len, file);
+ *         } while (part.status == DATA_URL_MORE);
+ *         return part.status;
+ *     }
+ *
+ *     int main(void) {
+ *         static char url[1 << 20];
+ *         size_t len = fread(url, 1, sizeof url, stdin);
+ *         uint32_t status = write_body(url, len, stdout);
+ *         return status == DATA_URL_DONE && fflush(stdout) == 0 ? 0 : 1;
+ *     }
+ *
+ * and this one the bytes of the base64 on standard input:
+ *
+ *     #include "data_url.h"
+ *     #include <stdio.h>
+ *
+ *     static uint32_t decode(FILE *from, FILE *to) {
+ *         static char text[4096], room[4096];
+ *         struct data_url_base64_state state = DATA_URL_BASE64_STATE;
+ *         size_t len, at;
+ *         while ((len = fread(text, 1, sizeof text, from)) > 0) {
+ *             for (at = 0; at < len;) {
+ *                 struct data_url_fed fed = data_url_base64_feed(&state, text + at, len - at, room, sizeof room);
+ *                 if (fed.status == DATA_URL_OUTPUT_TOO_SMALL) return fed.status;
+ *                 fwrite(room, 1, fed.len, to);
+ *                 if (fed.status != DATA_URL_DONE) return fed.status;
+ *                 at += fed.read;
+ *             }
+ *         }
+ *         struct data_url_answer last = data_url_base64_finish(&state, room, sizeof room);
+ *         if (last.status == DATA_URL_DONE) fwrite(room, 1, last.len, to);
+ *         return last.status;
+ *     }
+ *
+ *     int main(void) {
+ *         uint32_t status = decode(stdin, stdout);
+ *         return status == DATA_URL_DONE && fflush(stdout) == 0 ? 0 : 1;
+ *     }
  *
  * TEXTS. A text is `len` bytes at a pointer. It need not end with a NUL, and may contain one. Any bytes are allowed. The
  * pointer may be null if `len` is 0. The text is only read, and only until the call returns.
@@ -42,9 +92,10 @@
  * What it holds before the call is never read. A call writes the first `len` bytes and leaves the rest as it was. With the
  * status DATA_URL_OUTPUT_TOO_SMALL it writes nothing.
  *
- * LENGTHS. `len` of an answer is how many bytes it has. If a whole text is decoded and `room` is less, the status is
- * DATA_URL_OUTPUT_TOO_SMALL, and a second call with that much room succeeds. So a call with no room asks for the length. A
- * body is never longer than its URL, and decoded base64 never longer than its text.
+ * LENGTHS. `len` of an answer is how many bytes were written, but for one status: with DATA_URL_OUTPUT_TOO_SMALL nothing was
+ * written, and `len` is the room that is needed. A second call with that much room succeeds. So a call with no room asks for the
+ * length. data_url_body_next and data_url_base64_feed write as much as there is room for: their `len` is always how many bytes
+ * were written. A body is never longer than its URL, and decoded base64 never longer than its text.
  *
  * INVALID BASE64. The bytes before the first fault are written, with the status of the fault. data_url_fragment writes none.
  * data_url_mime and data_url_open do not decode the body and so find no fault in it.
@@ -81,7 +132,7 @@ enum data_url_status {
     DATA_URL_OUT_OF_MEMORY = 3,
     /* The text is not UTF-8. */
     DATA_URL_NOT_UTF8 = 4,
-    /* The answer has `len` bytes, and the output has no room for them. */
+    /* The output is too small, and nothing was written. */
     DATA_URL_OUTPUT_TOO_SMALL = 5,
     /* The text is not a MIME type. */
     DATA_URL_NOT_A_MIME_TYPE = 6,
@@ -104,7 +155,8 @@ enum data_url_status {
 struct data_url_answer {
     /* One of enum data_url_status, or DATA_URL_BASE64_UNEXPECTED_SYMBOL plus a byte. */
     uint32_t status;
-    /* How many bytes the answer has. */
+    /* How many bytes were written to the output. With DATA_URL_OUTPUT_TOO_SMALL, none were: then it is the room that is
+     * needed or, from data_url_body_next, 0. */
     size_t len;
 };
 
@@ -167,12 +219,13 @@ struct data_url_answer data_url_base64(const void *base64, size_t len, void *out
 /* What data_url_open returns. */
 struct data_url_opened {
     uint32_t status;
-    /* How many bytes the printed MIME type has. */
+    /* How many bytes the printed MIME type has. With DATA_URL_OUTPUT_TOO_SMALL it was not written. 0 if there is no URL. */
     size_t len;
-    /* The tail, which is the text after the comma: where it begins in the URL, and how many bytes it has. */
+    /* The tail, which is the text after the comma: where it begins in the URL, and how many bytes it has. They are set with
+     * DATA_URL_DONE and DATA_URL_OUTPUT_TOO_SMALL, and 0 with any other status. */
     size_t tail;
     size_t tail_len;
-    /* Whether the body is base64. */
+    /* Whether the body is base64. False if there is no URL. */
     bool is_base64;
 };
 
@@ -183,7 +236,7 @@ struct data_url_opened {
  * Returns what data_url_mime returns. With DATA_URL_DONE and DATA_URL_OUTPUT_TOO_SMALL the other fields are set too. */
 struct data_url_opened data_url_open(const void *url, size_t len, void *out, size_t room);
 
-/* How far a body was decoded. Set is_base64 to that of data_url_open, and everything else to 0. */
+/* How far a body was decoded. It begins as DATA_URL_BODY_STATE(opened.is_base64). */
 struct data_url_body_state {
     size_t from;
     uint8_t symbols[3];
@@ -192,6 +245,9 @@ struct data_url_body_state {
     uint8_t is_base64;
 };
 
+/* The state at the start of a body, as an initialiser. */
+#define DATA_URL_BODY_STATE(is_base64) {0, {0, 0, 0}, 0, 0, (uint8_t)((is_base64) ? 1 : 0)}
+
 /* Decodes the next bytes of a body. Call it with the same tail until the status is not DATA_URL_MORE.
  *
  * state       how far the body was decoded
@@ -199,23 +255,28 @@ struct data_url_body_state {
  * out, room   receives the next bytes; the room may differ from call to call, and must be 8 or more. 4 KiB are fast
  * Returns DATA_URL_MORE; DATA_URL_DONE with the last bytes; a fault of base64, with the bytes before it;
  * DATA_URL_OUTPUT_TOO_SMALL if the room is less than 8; DATA_URL_NOT_UTF8 if the tail is not UTF-8; DATA_URL_BAD_STATE if
- * the state was changed by something else, or the body has ended. With the last three the state stays as it was. */
+ * the state was changed by something else, or the body has ended. With the last three the length is 0, and the state stays as
+ * it was. */
 struct data_url_answer data_url_body_next(
     struct data_url_body_state *state, const void *tail, size_t len, void *out, size_t room);
 
-/* What a text of base64 has left. Set everything to 0 at its start. */
+/* What a text of base64 has left. It begins as DATA_URL_BASE64_STATE. */
 struct data_url_base64_state {
     uint8_t symbols[3];
     uint8_t pending;
     uint8_t padding;
 };
 
+/* The state at the start of a text, as an initialiser. */
+#define DATA_URL_BASE64_STATE {{0, 0, 0}, 0, 0}
+
 /* What data_url_base64_feed returns. */
 struct data_url_fed {
     uint32_t status;
-    /* How many bytes were written. */
+    /* How many bytes were written to the output. 0 with DATA_URL_OUTPUT_TOO_SMALL and DATA_URL_BAD_STATE. */
     size_t len;
-    /* How many bytes of the input were read. */
+    /* How many bytes of the input were read. 0 with DATA_URL_OUTPUT_TOO_SMALL and DATA_URL_BAD_STATE. After a fault it does not
+     * say where the fault is. */
     size_t read;
 };
 
@@ -226,7 +287,7 @@ struct data_url_fed {
  * input, len  the next part of the text
  * out, room   receives the bytes of the groups of four symbols that are complete; the room must be 4 or more
  * Returns DATA_URL_DONE; a fault of base64, with the bytes before it; DATA_URL_OUTPUT_TOO_SMALL if the room is less than 4;
- * DATA_URL_BAD_STATE. With the last two the state stays as it was. */
+ * DATA_URL_BAD_STATE. With the last two nothing is written or read, and the state stays as it was. */
 struct data_url_fed data_url_base64_feed(
     struct data_url_base64_state *state, const void *input, size_t len, void *out, size_t room);
 

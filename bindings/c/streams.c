@@ -71,7 +71,7 @@ static size_t size_of(size_t room) { return room ? room : 4 + below(40); }
 
 /* Decodes a body in parts, with rooms of a size or, for 0, of random sizes. */
 static void read_parts(const uint8_t *tail, size_t len, bool is_base64, size_t size) {
-    struct data_url_body_state state = {0, {0}, 0, 0, is_base64};
+    struct data_url_body_state state = DATA_URL_BODY_STATE(is_base64);
     parts.len = 0;
     parts.status = DATA_URL_MORE;
     for (size_t calls = 0; parts.status == DATA_URL_MORE; calls++) {
@@ -102,7 +102,7 @@ static void feed_part(struct data_url_base64_state *state, const uint8_t *text, 
 
 /* Decodes base64 in two pieces. */
 static void feed_parts(const uint8_t *text, size_t len, size_t cut, size_t size) {
-    struct data_url_base64_state state = {{0}, 0, 0};
+    struct data_url_base64_state state = DATA_URL_BASE64_STATE;
     parts.len = 0;
     parts.status = DATA_URL_DONE;
     feed_part(&state, text, cut, size);

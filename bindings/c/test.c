@@ -248,6 +248,87 @@ static void failing_allocations(void) {
     without_memory(data_url_type, "a", DATA_URL_NOT_A_MIME_TYPE, 0);
 }
 
+/* An output of exactly this size, so that valgrind and the sanitizers see each byte that is written after it. */
+static uint8_t *exact_room(size_t room) {
+    uint8_t *out = __real_malloc(room);
+    if (!out) abort();
+    return out;
+}
+
+/* Whether an answer is the first bytes of these, all of which fit. */
+static int begins(const uint8_t *out, size_t len, size_t room, const char *want) {
+    return len <= room && len <= strlen(want) && memcmp(out, want, len) == 0;
+}
+
+static void whole_text_in(size_t room, Call call, const char *text, const char *want) {
+    uint8_t *out = exact_room(room);
+    struct data_url_answer answer = call(text, strlen(text), out, room);
+    int fits = room >= strlen(want);
+    check(is(answer, fits ? DATA_URL_DONE : DATA_URL_OUTPUT_TOO_SMALL, strlen(want)), "small room", text);
+    check(!fits || begins(out, answer.len, room, want), "bytes in a small room", text);
+    free(out);
+}
+
+static void opened_in(size_t room) {
+    uint8_t *out = exact_room(room);
+    struct data_url_opened opened = data_url_open("data:a/b;base64,x", 17, out, room);
+    check(opened.status == (room < 3 ? DATA_URL_OUTPUT_TOO_SMALL : DATA_URL_DONE) && opened.len == 3, "small room", "open");
+    check(opened.tail == 16 && opened.tail_len == 1 && opened.is_base64, "fields with a small room", "open");
+    check(room < 3 || memcmp(out, "a/b", 3) == 0, "bytes in a small room", "open");
+    free(out);
+}
+
+static void body_part_in(size_t room) {
+    uint8_t *out = exact_room(room);
+    struct data_url_body_state state = DATA_URL_BODY_STATE(false);
+    struct data_url_answer part = data_url_body_next(&state, "abcdefgh%41i", 12, out, room);
+    if (room < 8) {
+        check(is(part, DATA_URL_OUTPUT_TOO_SMALL, 0) && state.from == 0, "small room", "body_next");
+    } else {
+        check(part.status == DATA_URL_MORE && begins(out, part.len, room, "abcdefghAi"), "room of 8", "body_next");
+    }
+    free(out);
+}
+
+static void base64_part_in(size_t room) {
+    uint8_t *out = exact_room(room);
+    struct data_url_base64_state state = DATA_URL_BASE64_STATE;
+    struct data_url_fed fed = data_url_base64_feed(&state, "QUJDREVGR0hJ", 12, out, room);
+    if (room < 4) {
+        check(fed.status == DATA_URL_OUTPUT_TOO_SMALL && fed.len == 0 && fed.read == 0, "small room", "base64_feed");
+    } else {
+        check(fed.status == DATA_URL_DONE && fed.read > 0 && begins(out, fed.len, room, "ABCDEFGHI"), "room", "base64_feed");
+    }
+    free(out);
+}
+
+static void base64_end_in(size_t room) {
+    uint8_t *out = exact_room(room), none[4];
+    struct data_url_base64_state state = DATA_URL_BASE64_STATE;
+    struct data_url_fed fed = data_url_base64_feed(&state, "QU", 2, none, sizeof none);
+    struct data_url_fed more = data_url_base64_feed(&state, "I", 1, none, sizeof none);
+    check(fed.len == 0 && more.len == 0, "symbols that are left", "base64_finish");
+    struct data_url_answer last = data_url_base64_finish(&state, out, room);
+    check(is(last, room < 2 ? DATA_URL_OUTPUT_TOO_SMALL : DATA_URL_DONE, 2), "small room", "base64_finish");
+    check(room < 2 || begins(out, last.len, room, "AB"), "bytes in a small room", "base64_finish");
+    free(out);
+}
+
+/* Each call with a room of 0 to 8 bytes. */
+static void small_rooms(void) {
+    for (size_t room = 0; room <= 8; room++) {
+        whole_text_in(room, data_url_body, "data:,abc%41ef", "abcAef");
+        whole_text_in(room, data_url_mime, "data:a/b;c=d,", "a/b;c=d");
+        whole_text_in(room, data_url_fragment, "data:,#a b", "a%20b");
+        whole_text_in(room, data_url_type, "A/b;c=d", "a/b;c=d");
+        whole_text_in(room, data_url_base64, "QUJDREVG", "ABCDEF");
+        opened_in(room);
+        body_part_in(room);
+        base64_part_in(room);
+        base64_end_in(room);
+    }
+}
+
 int main(void) {
     worked_urls();
     worked_texts();
@@ -258,6 +339,7 @@ int main(void) {
     long_bodies();
     many_parameters();
     failing_allocations();
+    small_rooms();
     printf("c: %d checks, %d wrong\n", checks, wrong);
     return wrong ? 1 : 0;
 }

@@ -55,7 +55,7 @@ abbrev pub FeedsPart : DataUrlBase64 → DataUrlBase64 → List ℕ → List ℕ
 FeedsPart old new input before after r =
     MatchBool (is_good_state old)
     (MatchBool (nat_lt (length before) 4)
-    (DoesNothing old new before after × (r.status ≡ 5) × (r.len ≡ 4) × (r.read ≡ 0))
+    (DoesNothing old new before after × (r.status ≡ 5) × (r.len ≡ 0) × (r.read ≡ 0))
     (Reads (length input) (length before) r.read
     × TakesText (waiting_text old ++ take r.read input) new before after r.status r.len))
     (DoesNothing old new before after × (r.status ≡ 12) × (r.len ≡ 0) × (r.read ≡ 0))

@@ -204,7 +204,7 @@ fn plan(state: &DataUrlBody, tail: &[u8], room: usize) -> Result<usize, DataUrlS
     if room < SMALLEST_OUTPUT {
         return Err(DataUrlStep {
             status: OUTPUT_TOO_SMALL,
-            len: SMALLEST_OUTPUT,
+            len: 0,
         });
     }
     let end = window_end(tail, state.from, (room - 3) / 4 * 4);

@@ -11,7 +11,7 @@
 //! | 2 | no comma before the fragment | 0 |
 //! | 3 | allocation failed | 0 |
 //! | 4 | the text is not UTF-8 | 0 |
-//! | 5 | the output is too small, and unchanged | that is needed |
+//! | 5 | the output is too small, and unchanged | that is needed; 0 from `dataurl_body_next` and `dataurl_base64_feed` |
 //! | 6 | the text is not a MIME type | 0 |
 //! | 7 | the URL has no fragment | 0 |
 //! | 8, 9, 10, 256 and a byte | base64 with padding that does not fit, a lone symbol, a symbol after padding, an unexpected byte | of the bytes before the fault, at the start of the output |

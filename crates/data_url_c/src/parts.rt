@@ -305,7 +305,7 @@ pub(crate) fn feed(state: &mut DataUrlBase64, input: &[u8], out: &mut [u8]) -> D
     if out.len() < SMALLEST_OUTPUT {
         return DataUrlFed {
             status: OUTPUT_TOO_SMALL,
-            len: SMALLEST_OUTPUT,
+            len: 0,
             read: 0,
         };
     }

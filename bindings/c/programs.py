@@ -1,0 +1,40 @@
+#!/usr/bin/env python3
+"""Writes each program in C that the header and the documents show to a file of its own: programs.py FOLDER
+
+The files are NUMBER.c, and beside each NUMBER.in, its input, and NUMBER.out, what it has to write.
+"""
+import pathlib
+import re
+import sys
+
+HERE = pathlib.Path(__file__).resolve().parent
+URL = "data:text/plain;base64,SGVsbG8h#part"
+
+
+def shown():
+    """Returns the programs as they are written there."""
+    comment = HERE.joinpath("data_url.h").read_text().split("*/")[0]
+    lines = [line[3:] for line in comment.splitlines()]
+    indented = "\n".join(line[4:] if line.startswith("    ") else "" if not line else "\f" for line in lines)
+    pages = [HERE.parent / "README.md", HERE.parent.parent / "README.md"]
+    fenced = [block for page in pages for block in re.findall(r"^```c\n(.*?)^```$", page.read_text(), re.S | re.M)]
+    return [it.strip("\n") + "\n" for it in [*indented.split("\f"), *fenced] if "int main(" in it]
+
+
+def input_and_output(program):
+    """Returns the input for a program, and what it has to write."""
+    if "data_url_base64_feed" in program:
+        return "SGVs\r\nbG8h", "Hello!"
+    return (URL, "Hello!") if "data_url_body_next" in program else ("", "Hello!, 6 bytes\n")
+
+
+def main(folder):
+    programs = shown()
+    assert len(programs) == 6, f"{len(programs)} programs are shown"
+    for number, program in enumerate(programs):
+        texts = (program, *input_and_output(program))
+        for ending, text in zip(("c", "in", "out"), texts):
+            pathlib.Path(folder, f"{number}.{ending}").write_text(text)
+
+
+main(sys.argv[1])
