@@ -1,5 +1,5 @@
-//! Links `libdata_url.a`. It is looked for in the folder that `DATA_URL_LIB` names or, without it, in `../prebuilt/TARGET` and
-//! in `../out/TARGET`, where `bindings/build` puts it. If it is in neither, it is built, which needs the Rattle kit.
+//! Links `libdata_url.a`. It is looked for in the folder that `DATA_URL_LIB` names or, without it, in `../out/TARGET`, where
+//! `bindings/build` puts it, and in `../prebuilt/TARGET`. If it is in neither, it is built, which needs the Rattle kit.
 
 use std::env;
 use std::path::{Path, PathBuf};
@@ -56,14 +56,15 @@ fn folder() -> PathBuf {
     }
     let bindings = Path::new(&env::var_os("CARGO_MANIFEST_DIR").expect("by cargo")).join("..");
     let target = target();
-    let folders = [bindings.join("prebuilt").join(target), bindings.join("out").join(target)];
-    for folder in &folders {
+    let built = bindings.join("out").join(target);
+    let kept = bindings.join("prebuilt").join(target);
+    for folder in [&built, &kept].iter() {
         if folder.join("libdata_url.a").exists() {
-            return folder.clone();
+            return folder.to_path_buf();
         }
     }
     build(&bindings, target);
-    folders[1].clone()
+    built
 }
 
 fn main() {

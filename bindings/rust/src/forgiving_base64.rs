@@ -119,7 +119,10 @@ where
     /// # Errors
     ///
     /// `WriteError` with the closure's error. `InvalidBase64` at the first fault, after the closure was called with the
-    /// bytes before it; a decoder that is fed after a fault returns it again.
+    /// bytes before it.
+    ///
+    /// A decoder that is fed after a fault returns it again. After a `WriteError` the decoder does not call the closure again with
+    /// the bytes that it refused, and the rest of the input of that call is lost: do not feed it any more.
     pub fn feed(&mut self, input: &[u8]) -> Result<(), DecodeError<E>> {
         let mut room = Room::<{ crate::ROOM }>::new();
         let mut rest = input;

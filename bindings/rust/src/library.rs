@@ -83,6 +83,35 @@ extern "C" {
     fn dataurl_base64_finish(state: *mut Base64, out: *mut u8, room: usize) -> Answer;
 }
 
+/// Panics if the processor is older than the library needs. It is looked at once.
+#[cfg(all(
+    target_arch = "x86_64",
+    not(all(target_feature = "sse4.2", target_feature = "popcnt"))
+))]
+fn check_processor() {
+    use core::arch::x86_64::__cpuid;
+    use core::sync::atomic::{AtomicBool, Ordering};
+    const SSE4_2_AND_POPCNT: u32 = 1 << 20 | 1 << 23;
+    static IS_CHECKED: AtomicBool = AtomicBool::new(false);
+    if IS_CHECKED.load(Ordering::Relaxed) {
+        return;
+    }
+    #[allow(unused_unsafe)]
+    let features = unsafe { __cpuid(1) }.ecx;
+    assert!(
+        features & SSE4_2_AND_POPCNT == SSE4_2_AND_POPCNT,
+        "data-url: this processor has no SSE4.2 or no POPCNT, which the library needs (x86-64-v2)"
+    );
+    IS_CHECKED.store(true, Ordering::Relaxed);
+}
+
+/// The program itself does not run on an older processor than the library.
+#[cfg(not(all(
+    target_arch = "x86_64",
+    not(all(target_feature = "sse4.2", target_feature = "popcnt"))
+)))]
+fn check_processor() {}
+
 /// A buffer on the stack, to which nothing is written yet.
 pub(crate) struct Room<const N: usize> {
     bytes: [MaybeUninit<u8>; N],
@@ -113,6 +142,7 @@ fn printed<A, T>(
     answer: impl Fn(&A) -> (u32, usize),
     read: impl Fn(&A, &str) -> T,
 ) -> Result<T, u32> {
+    check_processor();
     let mut room = Room::<PRINTED>::new();
     let given = call(room.as_mut_ptr(), PRINTED);
     let (status, len) = answer(&given);
@@ -148,10 +178,7 @@ fn refusal(status: u32) -> u32 {
 
 /// Opens a URL: the result of `read` for its printed MIME type, whether its body is base64, and the text after its
 /// comma.
-pub(crate) fn open<'a, T>(
-    url: &'a str,
-    read: impl Fn(&str) -> T,
-) -> Result<(T, bool, &'a str), u32> {
+pub(crate) fn open<T>(url: &str, read: impl Fn(&str) -> T) -> Result<(T, bool, &str), u32> {
     printed(
         // The bytes of a `str` are UTF-8.
         |out, room| unsafe { dataurl_open_utf8(url.as_ptr(), url.len(), out, room) },
@@ -233,6 +260,7 @@ impl Body {
 impl Base64 {
     /// A text of which nothing was fed.
     pub(crate) fn new() -> Base64 {
+        check_processor();
         Base64 {
             symbols: [0; 3],
             pending: 0,
