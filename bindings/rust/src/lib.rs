@@ -2,7 +2,31 @@
 //! <https://fetch.spec.whatwg.org/#data-urls>
 //! but starting from a string rather than a parsed URL to avoid extra copies.
 //!
-//! Its names are those of the crate `data-url` 0.3.2, so it can take that crate's place.
+//! Its names are those of the crate `data-url` 0.3.2, so it can take that crate's place. In `Cargo.toml`, one of:
+//!
+//! ```toml
+//! [patch.crates-io]                 # also for the crates that you depend on
+//! data-url = { path = ".../bindings/rust" }
+//!
+//! [dependencies]
+//! data-url = { path = ".../bindings/rust" }
+//! data-url = { git = "file:///.../checkout" }
+//! ```
+//!
+//! # Platforms
+//!
+//! Linux on x86-64 with SSE4.2 and POPCNT (any processor since about 2009), and on 64-bit ARM. The library is built for these, and
+//! linked as it is; no other tool than cargo is needed. With `-C target-cpu=x86-64-v3` the library for processors with AVX2 is
+//! linked. On a processor without SSE4.2 or POPCNT the first call panics with a message that says so.
+//!
+//! # What differs from the crate
+//!
+//! - Where the crate does not follow the Fetch Standard, the answers are those of the Standard. `docs/DIFFERENCES.md` lists them.
+//! - [`DataUrl::decode`] calls the closure with pieces of at most 8 KiB, and allocates nothing.
+//! - A [`forgiving_base64::Decoder`] that is fed after a fault returns the fault again.
+//! - If allocation fails, the program ends as with Rust's own types.
+//!
+//! # Example
 //!
 //! ```rust
 //! use data_url::{DataUrl, mime};
