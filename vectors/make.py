@@ -1,13 +1,11 @@
 #!/usr/bin/env python3
-"""Writes the vectors of this folder anew, each answer by a reference that is given, and none by the library.
+"""Writes the vectors of this folder anew, each answer by `reference.py`, and none by the library.
 
-  make.py REFERENCE      REFERENCE is a Python file: the steps of the standards over whole texts
+    make.py               writes the files
+    make.py --check       writes nothing, and fails if a file would change
 
-It has to define staged(bytes), which gives "not a valid data url", "data url is missing comma delimiting attributes and
-body", or the record, the body, the text of the fault or None, and the encoded fragment or None; parses(str), a record or
-None; print_record(record); b64valid, b64bytes, done and kind of bytes. README.md tells how the inputs were chosen.
+README.md says how the inputs were chosen.
 """
-import importlib.util
 import itertools
 import json
 import pathlib
@@ -15,6 +13,8 @@ import random
 import sys
 
 sys.dont_write_bytecode = True
+import reference
+
 HERE = pathlib.Path(__file__).resolve().parent
 ROW = "data:;charset=x;base64,Y%51%3D=#x y"
 
@@ -49,6 +49,11 @@ def schemes():
 def commas():
     yield from ("data:" + it for it in joined(["", ",", "#", "?", "a/b"], [",", "#", "?", ";", ""], [",", "#", "%2C", "%23", ""], ["", "x", ",x"]))
     yield from ["data:" + it for it in ("/,x", "//,x", "//h/p,x", "///,x", "/p?q#f,x", "?q,x", "#f,x", "a/b,c,d", ",,,", "\\,x", "a\\b,x", "..,x", "%2e%2e/,x", "a/../b,x")]
+
+
+def paths():
+    """Texts that a parser of other schemes resolves: an authority, a port, dot segments."""
+    yield from ["data:/,a/../b", "data://a b/,x", "data://h:99999/,x", "data:/text/plain,x/../y,z", "data:/./,x", "data:/a/..,x/..", "data:/%2e%2e/text/plain,x/%2E", "data://H/TEXT,x", "data:///,a//b", "data://u:p@h/a/b,c", "data://[::1]/,x", "data:/\\,a\\..\\b"]
 
 
 def headers():
@@ -152,7 +157,7 @@ def texts_of(bits, seed, count, most, front=""):
 
 SUBJECTS = {
     "url": {
-        "schemes": schemes, "commas": commas, "headers": headers, "header_types": header_types,
+        "schemes": schemes, "commas": commas, "paths": paths, "headers": headers, "header_types": header_types,
         "header_parameters": header_parameters, "escapes": escapes, "base64_bodies": base64_bodies, "spaces": spaces,
         "tabs_and_newlines": tabs_and_newlines, "non_ascii": non_ascii, "fragments": fragments, "truncations": truncations,
         "long": long_ones, "mixed_urls": texts_of(URL_BITS, 1, 250, 12, "data:"),
@@ -162,50 +167,54 @@ SUBJECTS = {
     "base64": {"base64_texts": base64_texts, "base64_faults": base64_faults, "mixed_base64": texts_of(BASE64_BITS, 3, 150, 9)},
 }
 
-FAULTS = {"lone alphabet symbol present": "lone symbol", "incorrect padding": "padding", "alphabet symbol present after padding": "symbol after padding"}
-REFUSALS = {"not a valid data url": "no scheme", "data url is missing comma delimiting attributes and body": "no comma"}
+
+def fault_in(text):
+    """The keys of base64 that is not valid."""
+    fault, byte = reference.fault_of(text)
+    return {"fault": fault, **({} if byte is None else {"byte": byte}), "before": reference.complete_bytes(text).hex()}
 
 
-def fault_of(kind, before):
-    if kind in FAULTS:
-        return {"fault": FAULTS[kind], "before": before.hex()}
-    byte = int(kind.split("codepoint ")[1].split()[0])
-    return {"fault": "unexpected symbol", "byte": byte, "before": before.hex()}
-
-
-def answer(reference, kind, text):
+def answer(kind, text):
+    """The keys of an input beside `input`."""
     data = text.encode()
     if kind == "base64":
-        return {"bytes": reference.b64bytes(data).hex()} if reference.b64valid(data) else fault_of(reference.kind(data), reference.done(data))
+        return {"bytes": reference.decoded_base64(data).hex()} if reference.is_valid_base64(data) else fault_in(data)
     if kind == "mime":
-        record = reference.parses(text)
+        record = reference.record_of(text)
         if record is None:
             return {"refusal": "no MIME type"}
-        return {"type": record[0], "subtype": record[1], "parameters": [list(it) for it in record[2]], "printed": reference.print_record(record)}
-    staged = reference.staged(data)
-    if isinstance(staged, str):
-        return {"refusal": REFUSALS[staged]}
-    record, body, fault, fragment = staged
-    printed = {"mime": reference.print_record(record)}
-    if fault is not None:
-        return {**printed, **fault_of(fault, body)}
-    return {**printed, "body": body.hex(), "fragment": None if fragment is None else fragment.decode()}
+        return {"type": record[0], "subtype": record[1], "parameters": [list(it) for it in record[2]], "printed": reference.printed(record)}
+    url = reference.url_of(data)
+    if isinstance(url, str):
+        return {"refusal": url}
+    record, body, is_base64, fragment = url
+    mime = {"mime": reference.printed(record)}
+    if is_base64 and not reference.is_valid_base64(body):
+        return {**mime, **fault_in(body)}
+    body = reference.decoded_base64(body) if is_base64 else body
+    return {**mime, "body": body.hex(), "fragment": None if fragment is None else fragment.decode()}
 
 
 def main():
-    spec = importlib.util.spec_from_file_location("reference", sys.argv[1])
-    reference = importlib.util.module_from_spec(spec)
-    spec.loader.exec_module(reference)
+    is_check = sys.argv[1:] == ["--check"]
+    count, wrong = 0, 0
     for kind, subjects in SUBJECTS.items():
         seen = set()
         for name, texts in subjects.items():
             fresh = [it for it in dict.fromkeys(texts()) if it not in seen]
             seen.update(fresh)
-            lines = [json.dumps({"input": it, **answer(reference, kind, it)}) for it in fresh]
+            lines = [json.dumps({"input": it, **answer(kind, it)}) for it in fresh]
             path = HERE / kind / (name + ".json")
-            path.parent.mkdir(exist_ok=True)
-            path.write_text("[\n" + ",\n".join(lines) + "\n]\n")
-            print(f"{kind}/{name}.json: {len(lines)}")
+            written = "[\n" + ",\n".join(lines) + "\n]\n"
+            count += len(lines)
+            if not is_check:
+                path.parent.mkdir(exist_ok=True)
+                path.write_text(written)
+            elif not path.exists() or path.read_text() != written:
+                wrong += 1
+                print(f"{kind}/{name}.json differs from what the reference gives")
+    print(f"vectors: {count} vectors by the reference, {wrong} files differ")
+    return 1 if wrong else 0
 
 
-main()
+sys.exit(main())
