@@ -81,10 +81,12 @@ fn random_texts() {
     }
 }
 
+/// The symbols of base64, by their six bits.
+const ALPHABET: &[u8; 64] = b"ABCDEFGHIJKLMNOPQRSTUVWXYZabcdefghijklmnopqrstuvwxyz0123456789+/";
+
 /// Returns the six bits of a symbol.
 fn six_bits(byte: u8) -> Option<u8> {
-    let alphabet = b"ABCDEFGHIJKLMNOPQRSTUVWXYZabcdefghijklmnopqrstuvwxyz0123456789+/";
-    let place = alphabet.iter().position(|symbol| *symbol == byte);
+    let place = ALPHABET.iter().position(|symbol| *symbol == byte);
     place.map(|place| place as u8)
 }
 
@@ -173,4 +175,61 @@ fn each_cut_in_two() {
         let (front, back) = text.as_bytes().split_at(cut);
         assert_fed(&[front, back], &bytes, "");
     }
+}
+
+/// Asserts what the body of a URL in base64 decodes to, by each call that decodes it, and its message or the fragment.
+fn assert_base64_url(text: &str) {
+    let (values, message) = read(&body_of(text));
+    let bytes = bytes_of(&values, message.is_empty());
+    let whole = format!("data:;base64,{}", text);
+    let url = DataUrl::process(&whole).unwrap();
+    let fragment = text.find('#').map(|at| text[at + 1..].replace(&['\t', '\n'][..], ""));
+    match url.decode_to_vec() {
+        Ok((found, rest)) => {
+            assert!(message.is_empty() && found == bytes, "{:?}", text);
+            assert_eq!(rest.map(|it| it.to_percent_encoded()), fragment, "{:?}", text);
+        }
+        Err(fault) => assert_eq!(fault.to_string(), message, "{:?}", text),
+    }
+    let mut pieces = Vec::new();
+    let ended = url.decode(|piece| -> Result<(), Infallible> {
+        pieces.extend_from_slice(piece);
+        Ok(())
+    });
+    assert!(ended.is_ok() == message.is_empty() && pieces == bytes, "{:?}", text);
+}
+
+/// Returns lines of random symbols, each followed by a newline.
+fn lines(width: usize, count: usize) -> String {
+    let mut state = 20_261_122;
+    let mut symbol = || char::from(ALPHABET[random(&mut state) as usize % 64]);
+    let mut line = || (0..width).map(|_| symbol()).chain(Some('\n')).collect::<String>();
+    (0..count).map(|_| line()).collect()
+}
+
+/// Parts of a text that may be in base64 in lines: escapes, what is skipped, faults, and the end of the body.
+const BETWEEN_SYMBOLS: [&str; 8] = ["%41", "%2B", "%0A", "%4\n\t1", "\t", "%", "=", "#"];
+
+/// Asserts what lines of base64 decode to with each of these parts at a place.
+fn assert_lines_with_parts(text: &str, place: usize) {
+    let (front, back) = text.split_at(place);
+    for part in &BETWEEN_SYMBOLS {
+        assert_base64_url(&format!("{}{}{}", front, part, back));
+    }
+}
+
+/// If the first line has fewer than 32 symbols, the newlines are taken out before the decoder is fed.
+#[test]
+fn lines_of_base64() {
+    for width in [64, 76] {
+        let text = lines(width, 9);
+        (32..=text.len()).for_each(|place| assert_lines_with_parts(&text, place));
+    }
+}
+
+/// The decoder is fed the lines after the first one in stretches of at least 4,096 bytes.
+#[test]
+fn long_lines_of_base64() {
+    let text = lines(76, 60);
+    (4_096..4_240).for_each(|place| assert_lines_with_parts(&text, place));
 }

@@ -2,6 +2,8 @@
 //! returns. It allocates nothing itself, so that a check can make each allocation of the call fail in turn.
 #![tactic(auto)]
 
+ghost use Rattle.std.specs.Prelude.{◌≤◌, IfOk, length};
+
 use data_url::DataUrl;
 use data_url::escapes::{Piece, Pieces};
 use data_url::forgiving_base64::{Decoder, decode_to_vec};
@@ -12,7 +14,7 @@ use std::io::{self, Read, Write};
 use std::str;
 
 /// Room for the name of the call and its text.
-const BUFFER_LEN: usize = 4096;
+const BUFFER_LEN: usize = 16384;
 
 /// Writes a line.
 fn write_line<W: Write, D: Display>(out: &mut W, value: &D) -> io::Result<()> {
@@ -185,9 +187,24 @@ fn write_call<W: Write>(alloc: Global, name: &str, text: &str, out: &mut W) -> i
     }
 }
 
+/// Reads an input to its end, or until the room is full. Returns how many bytes were read.
+fn read_all<R: Read>(input: &mut R, room: &mut [u8]) -> io::Result<usize>
+    ensures { IfOk result (λ len. len ≤ length room.new) }
+{
+    let mut len = 0;
+    while len < room.len() {
+        let more = input.read(&mut room[len..])?;
+        if more == 0 {
+            break;
+        }
+        len += more;
+    }
+    Ok(len)
+}
+
 fn main(rt: HostRuntime) -> io::Result<()> {
     let mut room = [0; BUFFER_LEN];
-    let len = rt.stdin().read(&mut room)?;
+    let len = read_all(&mut rt.stdin(), &mut room)?;
     let Ok(input) = str::from_utf8(&room[..len]) else {
         return Ok(());
     };

@@ -4,6 +4,7 @@
 
 mod capacity;
 mod errors;
+mod lines;
 mod mime;
 mod recorder;
 mod urls;

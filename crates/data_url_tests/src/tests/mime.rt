@@ -4,6 +4,7 @@ use super::{assert_printed, assert_that};
 use data_url::laws::{canonical, same_text};
 use data_url::mime::Mime;
 use std::alloc::{AllocError, Global};
+use std::fmt::Write;
 use std::process::Abort;
 use std::test::Fail;
 
@@ -55,5 +56,39 @@ fn the_order_of_parameters_counts(rt: HostRuntime) -> Result<(), Fail> {
     assert_that(&rt, "order", first != second);
     canonical(&first);
     same_text(&first, &second);
+    Ok(())
+}
+
+/// Appends three parameters whose names end in these bytes and have one number, and then the same names in the other case.
+/// The search of a name among the first ones computes a number from its last three bytes, which is the same for `0k` as for
+/// `1a` after the same byte.
+fn write_twice(text: &mut String, number: u32) -> Result<(), AllocError> {
+    write!(text, ";n{number}end=1;n{number}0k=2;n{number}1a=3")?;
+    write!(text, ";N{number}END=4;N{number}1A=5;N{number}0K=6")
+}
+
+/// Returns a MIME type with parameters whose names come again in the other case: at once, and after all of them. Also returns
+/// it with the first parameter of each name alone.
+fn with_names_again(alloc: Global, count: u32) -> Result<[String; 2], AllocError> {
+    let mut text = String::from_str(alloc, "x/x")?;
+    let mut first = String::from_str(alloc, "x/x")?;
+    for number in 0..count {
+        write_twice(&mut text, number)?;
+        write!(first, ";n{number}end=1;n{number}0k=2;n{number}1a=3")?;
+    }
+    for number in 0..count {
+        write_twice(&mut text, number)?;
+    }
+    Ok([text, first])
+}
+
+/// With 60 numbers there are 180 names, more than the 128 that are not searched in a set.
+#[test]
+fn names_that_come_again(rt: HostRuntime) -> Result<(), Fail> {
+    for count in [1, 5, 6, 42, 43, 60] {
+        let [text, first] = with_names_again(rt.alloc(), count)?;
+        let mime = Mime::from_str(rt.alloc(), text.as_str())?;
+        assert_printed(&rt, rt.alloc(), "names", &mime, first.as_str())?;
+    }
     Ok(())
 }

@@ -47,8 +47,8 @@ const URLS: [[&str; 4]; 10] = [
     ["data:#,x", "", "", NO_COMMA],
 ];
 
-/// Asserts the body of a URL, by each call that decodes it, and the message or the fragment after it.
-fn assert_body(
+/// Asserts the body of a URL as a whole, and the message or the fragment after it.
+pub fn assert_whole_body(
     rt: &impl Abort,
     alloc: Global,
     about: &str,
@@ -61,12 +61,25 @@ fn assert_body(
             assert_same(rt, about, bytes.as_slice(), body);
             let fragment = fragment_text(alloc, fragment)?;
             assert_same(rt, about, fragment.as_bytes(), answer.as_bytes());
+            Ok(())
         }
         Err(error) => {
             let printed = format_args!("base64 not valid: {error}");
-            assert_printed(rt, alloc, about, &printed, answer)?;
+            assert_printed(rt, alloc, about, &printed, answer)
         }
     }
+}
+
+/// Asserts the body of a URL, by each call that decodes it, and the message or the fragment after it.
+pub fn assert_body(
+    rt: &impl Abort,
+    alloc: Global,
+    about: &str,
+    url: &DataUrl,
+    body: &[u8],
+    answer: &str,
+) -> Result<(), AllocError> {
+    assert_whole_body(rt, alloc, about, url, body, answer)?;
     Source::Body(url).assert_is(rt, alloc, about, body, answer)?;
     Ok(())
 }
