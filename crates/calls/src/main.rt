@@ -2,7 +2,7 @@
 //! returns. It allocates nothing itself, so that a check can make each allocation of the call fail in turn.
 #![tactic(auto)]
 
-ghost use Rattle.std.specs.Prelude.{◌≤◌, IfOk, length};
+ghost use Rattle.std.specs.Prelude.{◌≤◌, IfOk, IsTrue, length};
 
 use data_url::DataUrl;
 use data_url::escapes::{Piece, Pieces};
@@ -151,18 +151,26 @@ fn write_piece<W: Write>(piece: &Piece, out: &mut W) -> io::Result<()> {
     }
 }
 
-/// `pieces`: the pieces of a body, and `#` and the fragment, if there is one.
+/// Writes `#` and the fragment after a body, if there is one, and what comes after the end, if anything does.
+fn write_end<W: Write>(pieces: &mut Pieces<'_>, out: &mut W) -> io::Result<()>
+    requires { IsTrue pieces.old.ended }
+{
+    if pieces.next().is_some() {
+        return write!(out, " a piece after the end");
+    }
+    match pieces.fragment() {
+        Some(fragment) => write!(out, "#{fragment}"),
+        None => Ok(()),
+    }
+}
+
+/// `pieces`: the pieces of a body, and `#` and the fragment, if there is one. It says if a piece comes after the end.
 fn write_walk<W: Write>(text: &str, out: &mut W) -> io::Result<()> {
     let mut pieces = Pieces::new(text);
     for _ in 0..=text.len() {
         match pieces.next() {
             Some(piece) => write_piece(&piece, out)?,
-            None => {
-                return match pieces.fragment() {
-                    Some(fragment) => write!(out, "#{fragment}"),
-                    None => Ok(()),
-                };
-            }
+            None => return write_end(&mut pieces, out),
         }
     }
     Ok(())

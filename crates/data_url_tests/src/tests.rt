@@ -3,10 +3,12 @@
 //! its rows by value. Small helpers with few fallible calls are cheaper to prove than one function with many.
 
 mod capacity;
+mod decoder;
 mod errors;
 mod lines;
 mod mime;
 mod recorder;
+mod sizes;
 mod urls;
 mod writers;
 
