@@ -169,7 +169,7 @@ impl<'a> DataUrl<'a> {
     /// bytes are cut.
     ///
     /// Returns `WriteError` with the closure's error. Returns `InvalidBase64` if the body is base64 that is not
-    /// valid, after calls with the bytes before the first fault.
+    /// valid, after calls with the bytes before the first fault. It may be called again, and begins anew each time.
     ///
     /// The contract speaks of calls of the closure, at most one more than there are bytes after the comma, and none
     /// after an error. That there is no call after these is not proved here: `decode_with` returns the closure that
@@ -194,7 +194,8 @@ impl<'a> DataUrl<'a> {
     /// these if they are more, is allocated first, and grows.
     ///
     /// Returns `InvalidBase64` with the first fault if the body is base64 that is not valid, and `OutOfMemory` if
-    /// allocation fails.
+    /// allocation fails. If both happen, it is `OutOfMemory` if allocation fails before the fault is found: room is
+    /// allocated before the body is read, and grows while it is.
     pub fn decode_to_vec(
         &self,
         alloc: Global,

@@ -34,7 +34,8 @@ pub(crate) fn room_for(len: usize) -> usize
 /// ([Infra Standard, forgiving-base64 decode](https://infra.spec.whatwg.org/#forgiving-base64-decode)). Room for the
 /// bytes is allocated once, by the length of the text.
 ///
-/// Returns `InvalidBase64` with the first fault if the text is not valid, and `OutOfMemory` if allocation fails.
+/// Returns `InvalidBase64` with the first fault if the text is not valid, and `OutOfMemory` if allocation fails. That is
+/// before the text is read, so a text that is not valid gives `OutOfMemory` too, if there is no room for its bytes.
 pub fn decode_to_vec(alloc: Global, input: &[u8]) -> Result<Vec<u8>, DecodeToVecError>
     ensures valid { IsOk result → IsTrue (is_valid input.now) }
     ensures bytes { IfOk result (λ bytes. bytes.items ≡ decoded input.now) }
