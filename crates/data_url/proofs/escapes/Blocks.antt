@@ -1267,11 +1267,11 @@ gathers_front {c} {c'} {v} {room} {room'} {len} {end} {used} f s p within fits p
           ∙ ap (λ n. n + length (percent_decoding (cleaned (take used v)))) (length-take-le len room within);
     }
 
--- the walk goes on after the front
-pub looking_again : {s : Source} {b : Block} {place used : ℕ} → Looking s b place 0 → 2 ≤ used → place + used ≤ b.seen
-    → b.seen - (place + used) ≤ 2
+-- the walk goes on after the front, and what is left of its block is read again, if that is not longer than the front
+pub looking_again : {s : Source} {b : Block} {place used : ℕ} → Looking s b place 0 → place + used ≤ b.seen
+    → b.seen - (place + used) ≤ used
     → Looking s (record { base = place + used; seen = place + used; marks = 0 }) (place + used) 0
-looking_again {s} {b} {place} {used} k two l few =
+looking_again {s} {b} {place} {used} k l few =
     let text = s.text.now in
     let zero_is : place + used - (place + used) ≡ zero = omega arith in
     let none : take (place + used - (place + used)) (drop (place + used) text) ≡ [] =
@@ -1286,7 +1286,7 @@ looking_again {s} {b} {place} {used} k two l few =
       };
       base_le = omega arith;
       within = within;
-      looks_are_paid = omega (arith, k.looks_are_paid, paid_on text place (place + used) (omega arith), two, l, few);
+      looks_are_paid = omega (arith, k.looks_are_paid, paid_on text place (place + used) (omega arith), l, few);
     }
 
 -- The rest of a text

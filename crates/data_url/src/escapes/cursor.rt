@@ -36,6 +36,10 @@ const DENSE: u32 = 18;
 /// escapes have twelve bytes.
 const FEW: usize = 12;
 
+/// If at most this many bytes are left after the front of a block, they are read again with the next block: an escape that goes
+/// past the end of the block begins there.
+const SHORT_REST: usize = 2;
+
 /// A stretch with tabs and newlines in it ends once it has at least this many bytes, so that a fault is found before much more
 /// of the text is read.
 const LONG: usize = 4096;
@@ -66,8 +70,7 @@ impl<'a> Cursor<'a> {
     /// A walk that begins at the start of a text.
     pub(super) fn new(text: &'a str) -> Self
         ensures walk { walk_of result ≡ walk_at_start text.entry.now }
-        ensures looking { Looking result.source result.block 0 0 }
-        ensures unseen { result.block.seen ≡ 0 }
+        ensures unread { result.source.looks ≡ 0 }
         ensures knows { Knows result }
     {
         Cursor {
@@ -82,13 +85,12 @@ impl<'a> Cursor<'a> {
         }
     }
 
-    /// The bytes before the first marked byte. The walk goes there. The first byte is read by itself: if it is marked, the bytes
-    /// after it can be packed.
+    /// The bytes before the first marked byte. The walk goes there. If the first byte is a `%`, it is read by itself, so that the
+    /// bytes after its escape can be packed.
     #[inline(always)]
     pub(super) fn next_prefix(&mut self) -> &'a [u8]
         requires start { self.old.place ≡ 0 }
-        requires looking { Looking self.old.source self.old.block 0 0 }
-        requires unseen { self.old.block.seen ≡ 0 }
+        requires unread { self.old.source.looks ≡ 0 }
         ensures prefix { IsBodyPrefix (text_of self.old) result.now (walk_of self.new) }
         ensures knows { Knows self.new }
     {
@@ -497,11 +499,12 @@ impl<'a> Cursor<'a> {
         Some(end)
     }
 
-    /// Goes on after the first `used` bytes of the block. If at most two are left, they are read again with the next block.
+    /// Goes on after the first `used` bytes of the block. If only a short rest is left, it is read again with the next block. The
+    /// bound on looks allows that for as many bytes as `used`.
     #[inline(always)]
     fn pass_front(&mut self, used: usize)
         requires looking { Looking self.old.source self.old.block self.old.place 0 }
-        requires used { (2 ≤ used) × (self.old.place + used ≤ self.old.block.seen) }
+        requires used { (12 ≤ used) × (self.old.place + used ≤ self.old.block.seen) }
         ensures looking { Looking self.new.source self.new.block self.new.place 0 }
         ensures place { self.new.place ≡ self.old.place + used }
         ensures source { self.new.source ≡ self.old.source }
@@ -509,7 +512,8 @@ impl<'a> Cursor<'a> {
     {
         let _len = self.source.len();
         self.place += used;
-        if self.block.seen - self.place <= 2 {
+        let left = self.block.seen - self.place;
+        if left <= SHORT_REST {
             self.block = Block {
                 base: self.place,
                 seen: self.place,
