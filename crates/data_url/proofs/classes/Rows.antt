@@ -1,6 +1,10 @@
 -- Classes of bytes, sixteen bytes at a time. For `rows_len` and `span`.
 use Rattle.std.proofs.Common.{bit_and, true, false, sym, ap, ◌∙◌, ⊎_elim, arith, w8, ◌==◌, ◌||◌, not}
 use Rattle.std.{proofs.Common.{drop, length}, proofs.lemmas.Simd.{bitmask_splat, map-map, none_from_empty_mask}}
+use Rattle.std.proofs.lemmas.Simd.{run_in_chunk_fails, trailing_mask_l}
+use Rattle.std.proofs.{Common.{length-drop, length-take-le}, lemmas.List.Sums.{prefix_len-le-length}}
+use Rattle.std.proofs.Common.{eqb-true, refl}
+use Rattle.std.specs.{Int.Count.{count_trailing_zeros}, List.{prefix_len}}
 use Rattle.std.proofs.Common.{slice_index, ◌≡◌, ℕ, ◌+◌, ◌%◌, ◌^◌, ◌<◌, ◌≤◌, Bool, List, [], ◌∷◌, cond, map, take}
 use Rattle.std.{proofs.lemmas.Bool.{agree_below, agree_below_at, cases_lt, false≢true}, proofs.lemmas.List.{length-map}}
 use Rattle.std.{proofs.Common.{bit_or, eqb, ◌&&◌}, proofs.Math.Bool.{and_assoc}, specs.List.{list_all}}
@@ -34,13 +38,40 @@ pub record Looked (others bytes : List ℕ) (at : ℕ) : Type 0 where
   pub within : at ≤ length bytes
   pub front : AreOf others bytes at
 
--- if a row has no marked byte, the bytes before the end of the row are of the class, too
-pub one_row_more : (others bytes : List ℕ) (at marks : ℕ) → Looked others bytes at → at + 16 ≤ length bytes
-    → marks ≡ mask_l (map (is_marked others) (take 16 (drop at bytes))) → marks ≡ 0 → Looked others bytes (at + 16)
-one_row_more others bytes at marks h room e none =
-    let row = none_from_empty_mask (is_marked others) bytes at 16 0 room (sym e ∙ none) in
-    let all : AreOf others bytes (at + 16) = λ k l. ⊎_elim (h.front k) (λ (m : at ≤ k). row k m l) (cases_lt k at) in
-    record { within = room; front = all }
+-- a mask is 0 exactly if no item passes
+mask_zero : (p : ℕ → Bool) (xs : List ℕ) → (mask_l (map p xs) == 0) ≡ list_all (λ x. not (p x)) xs
+mask_zero p [] = refl
+mask_zero p (x ∷ xs) = grind (arith, mask_zero p xs)
+
+module _ (others bytes : List ℕ) (at : ℕ) {row : List ℕ} {b : Bool} (h : Looked others bytes at) (room : at + 16
+    ≤ length bytes)
+    (r : row ≡ take 16 (drop at bytes)) (e : b ≡ list_all (λ x. not (is_marked others x)) row) where
+  -- so is the mask of a row
+  row_mask : (mask_l (map (is_marked others) (take 16 (drop at bytes))) == 0) ≡ b
+  row_mask = mask_zero (is_marked others) (take 16 (drop at bytes)) ∙ ap (list_all (λ x. not (is_marked others x))) (sym r)
+      ∙ sym e
+
+  -- if a row has no marked byte, the bytes before the end of the row are of the class, too
+  pub one_row_more : b ≡ true → Looked others bytes (at + 16)
+  one_row_more t =
+      let row = none_from_empty_mask (is_marked others) bytes at 16 0 room (eqb-true _ _ (row_mask ∙ t)) in
+      let all : AreOf others bytes (at + 16) = λ k l. ⊎_elim (h.front k) (λ (m : at ≤ k). row k m l) (cases_lt k at) in
+      record { within = room; front = all }
+
+  -- otherwise, so are those before the first marked byte of the row
+  pub row_front : (n : ℕ) → b ≡ false → n ≡ count_trailing_zeros 64 (mask_l (map (is_marked others) row))
+      → (n ≤ 16) × Looked others bytes (at + n)
+  row_front n t f =
+      let found = take 16 (drop at bytes) in
+      let p : ℕ → Bool = is_marked others in
+      let long = length-take-le 16 (drop at bytes) (omega (arith, length-drop {A = ℕ})) in
+      let some : 0 < mask_l (map p found) = grind (arith, row_mask, t) in
+      let counted : n ≡ prefix_len (λ x. not (p x)) found =
+      f ∙ ap (λ v. count_trailing_zeros 64 (mask_l (map p v))) r ∙ trailing_mask_l p 64 found (omega arith) some in
+      let few = prefix_len-le-length (λ x. not (p x)) found in
+      let before = run_in_chunk_fails p bytes at 16 n 0 room counted in
+      let all : AreOf others bytes (at + n) = λ k l. ⊎_elim (h.front k) (λ (m : at ≤ k). before k m l) (cases_lt k at) in
+      (omega arith, record { within = omega arith; front = all })
 
 -- if the bit of each byte's entry in CLASSES agrees with the test p, it is set for a byte exactly if the byte passes
 pub entry_is : (p : ℕ → Bool) (bit : ℕ) → agree_below (λ b. not (bit_and (slice_index CLASSES b) bit == 0)) p 256 ≡ true

@@ -1,17 +1,23 @@
 -- Quoted strings: where they end, and their values. For `split_quote` and `values.rt`.
-use Rattle.std.proofs.Common.{◌≡◌, ℕ, ◌+◌, ◌-◌, ◌<◌, ◌≤◌, ◌==◌, Bool, true, false, not, cond, Some, None, List, [], ◌∷◌}
+use Rattle.std.proofs.Common.{◌≡◌, ℕ, ◌+◌, ◌-◌, ◌<◌, ◌≤◌, ◌==◌, Bool, true, false, not, cond, List, [], ◌∷◌}
 use Rattle.std.proofs.Common.{◌++◌, length, take, drop, refl, sym, ap, ◌∙◌, append_assoc, append-nil, arith, eqb-true}
-use Rattle.std.proofs.Common.{length-append, length-drop, encode_utf8_all, take-append-drop, one-add, take_all}
+use Rattle.std.proofs.Common.{length-drop, encode_utf8_all, one-add, take_all}
 use Rattle.std.proofs.Common.{slice_index, min, suc, ◌≢◌, drop-cons, drop-drop}
 use Rattle.std.proofs.{Common.{drop_of_length-le}, lemmas.List.Sums.{prefix_len-le-length, prefix_len_stops}}
 use Rattle.std.proofs.{lemmas.Bool.{not-false}, lemmas.List.{get_or-drop}}
-use Rattle.std.proofs.lemmas.Str.{chars-append, chars-nil, encodes-chars}
-use Rattle.std.{specs.List.{prefix_len}, specs.Str.{IsCharBoundary, IsUtf8, chars}}
-use Rattle.data_url.specs.{Steps.Parsing.{IsLiteral, Quoting, after_mark, front_of, is_escaped, quoted_len}}
-use Rattle.data_url.specs.{Steps.Parsing.{unescaped}, Url.{without_start}}
-use Rattle.data_url.proofs.mime.Parsing.{mark_is, unescaped_steady}
-use Rattle.data_url.proofs.texts.CodePoints.{IsCutInto, cut_front, cut_into, front_encodes, no_chars}
-use lib.Utf8.{encode}
+use Rattle.std.proofs.lemmas.Str.{encodes-chars}
+use Rattle.std.{specs.List.{prefix_len}, specs.Str.{IsUtf8, chars}}
+use Rattle.data_url.specs.{Steps.Parsing.{Quoting, is_escaped, quoted_len}}
+use Rattle.data_url.specs.{Steps.Parsing.{unescaped}}
+use Rattle.data_url.specs.{Mime.{Every}, Steps.Classes.{AreOf, is_marked}}
+use Rattle.data_url.specs.declared.classes.TheConstants.{ESCAPED}
+use Rattle.data_url.proofs.classes.Rows.{Looked, unmarked_passes}
+use Rattle.data_url.proofs.mime.TokenTexts.{encode_others}
+use Rattle.std.proofs.Common.{zero, take-add, take-take, length-take-le, nat_le, ◌&&◌}
+use Rattle.std.proofs.Math.Seq.{take-append-add}
+use Rattle.std.proofs.lemmas.{Bool.{cases_lt}}
+use Rattle.std.proofs.lemmas.Str.{chars-encodes, encode_ascii, scalars-chars}
+use lib.Utf8.{encode, scalars}
 
 -- a code point other than '"' and '\'
 abbrev plain : ℕ → Bool
@@ -21,129 +27,92 @@ plain c = not (is_escaped c)
 first_plain : (c : ℕ) (cs : List ℕ) → plain c ≡ true → unescaped false (c ∷ cs) ≡ c ∷ unescaped false cs
 first_plain c cs h = grind arith
 
--- the code points before the first '"' or '\' stand for themselves
-plain_chars : (cs : List ℕ) → unescaped false cs ≡ front_of plain cs ++ unescaped false (without_start plain cs)
-plain_chars [] = refl
-plain_chars (c ∷ cs) = elim (plain c) as (λ v. plain c ≡ v → unescaped false (c ∷ cs)
-    ≡ take (cond v (1 + prefix_len plain cs) 0) (c ∷ cs)
-    ++ unescaped false (drop (cond v (1 + prefix_len plain cs) 0) (c ∷ cs))) [
-      | true ↦ λ e. rw one-add (first_plain c cs e ∙ ap (λ x. c ∷ x) (plain_chars cs))
-      | false ↦ λ e. refl
-    ] refl
+-- the bytes that a text begins with, and that are not marked, stand for themselves
+pub plain_front : (text : List ℕ) (n : ℕ) → n ≤ length text → ((i : ℕ) → slice_index text i < 256)
+    → AreOf ESCAPED text n → unescaped false text ≡ take n text ++ unescaped false (drop n text)
+plain_front text zero l f h = refl
+plain_front [] (suc n) l f h = absurd (omega arith)
+plain_front (b ∷ text) (suc n) l f h =
+    let first = first_plain b text (unmarked_passes (is_marked ESCAPED) plain refl b (f 0) (h 0 (omega arith))) in
+    let more = plain_front text n (omega arith) (λ i. f (suc i)) (λ k m. h (suc k) (omega arith)) in
+    cc
 
--- the bytes before the first '"' or '\' stand for themselves
-pub plain_literal : (bs bytes : List ℕ) (n : ℕ) → IsUtf8 bs → bytes ≡ bs → n ≡ prefix_len plain bytes
-    → IsLiteral false bs n
-plain_literal bs bytes n u e f =
-    let cut : IsCutInto bs n (front_of plain (chars bs)) (without_start plain (chars bs)) =
-    rw (f, e) (cut_front plain unescaped_steady bs u) in
-    record {
-      within = grind (arith, prefix_len-le-length);
-      boundary = cut.boundary;
-      value = cc (plain_chars (chars bs), cut.front, cut.after);
-    }
+-- the first bytes of a text are copied to a place of a value
+pub record IsCopied (text before value : List ℕ) (len n : ℕ) : Type 0 where
+  pub front : Looked ESCAPED text n
+  pub value_is : take (len + n) value ≡ take len before ++ take n text
 
--- the first '"' or '\' after the first byte of a code point comes after the code point
-past_char : (c : ℕ) (r : List ℕ) → 1 + prefix_len plain (drop 1 (encode c ++ r))
-    ≡ length (encode c) + prefix_len plain r
+-- if a row is put after them, so are the first t bytes of the row
+pub copies_on : {text before value row : List ℕ} {len n : ℕ} (after : List ℕ) (t : ℕ) → IsCopied text before value len n
+    → len + n ≤ length value → row ≡ take 16 (drop n text) → take (len + n + 16) after ≡ take (len + n) value ++ row
+    → t ≤ 16 → take (len + (n + t)) after ≡ take len before ++ take (n + t) text
+copies_on {text} {before} {value} {row} {len} {n} after t h l r e m =
+    let front = take (len + n) value in
+    let long : length front ≡ len + n = length-take-le (len + n) value l in
+    let part : take (len + (n + t)) (take (len + n + 16) after) ≡ take (len + (n + t)) after =
+    take-take (len + (n + t)) (len + n + 16) after (omega arith) in
+    let size : len + (n + t) ≡ length front + t = omega arith in
+    let joined : take (len + (n + t)) (front ++ row) ≡ front ++ take t row =
+    ap (λ i. take i (front ++ row)) size ∙ take-append-add front row t in
+    let some : take t row ≡ take t (drop n text) = ap (take t) r ∙ take-take t 16 (drop n text) m in
+    cc (h.value_is, append_assoc (take len before) (take n text) (take t (drop n text)), take-add n t text)
+
+-- the bytes of a value so far, and the value of the bytes from a place on, are the value of the whole text
+pub record Unescaping (bytes value : List ℕ) (at len : ℕ) : Type 0 where
+  pub within : at ≤ length bytes
+  pub few : len ≤ at
+  pub size : length value ≡ length bytes
+  pub value_is : take len value ++ unescaped false (drop at bytes) ≡ unescaped false bytes
+
+-- at the end, the bytes are the value of the text
+pub unescapes_all : {bytes value bs : List ℕ} {at len : ℕ} (v : List ℕ) → Unescaping bytes value at len
+    → length bytes ≤ at → v ≡ take len value → bytes ≡ bs → v ≡ unescaped false bs
+unescapes_all {bytes} {value} {bs} {at} {len} v h l e f =
+    let none : drop at bytes ≡ [] = drop_of_length-le bytes {i = at} l in
+    cc (h.value_is, append-nil (take len value))
+
+-- bytes that are not ASCII stand for themselves
+others_stay : (bs r : List ℕ) → Every (λ b. nat_le 128 b) bs → unescaped false (bs ++ r) ≡ bs ++ unescaped false r
+others_stay [] r h = refl
+others_stay (b ∷ bs) r h = grind (arith, others_stay bs r h.1)
+
+-- an encoded code point stands for itself, unless it is a '\' that escapes
+unescaped_char : (e : Bool) (c : ℕ) (r : List ℕ) → unescaped e (encode c ++ r)
+    ≡ cond ((c == 92) && not e) (unescaped true r) (encode c ++ unescaped false r)
 unfolding encode
-past_char c r = grind arith
+unescaped_char true c r = grind arith
+unescaped_char false c r = grind (arith, cases_lt, encode_ascii, others_stay, encode, encode_others)
 
--- after a '\', the first code point stands for itself
-first_stays : (c : ℕ) (cs : List ℕ) → unescaped true (c ∷ cs) ≡ c ∷ unescaped false cs
-first_stays c cs = grind arith
-
--- if the first code point stands for itself, so do the bytes before the first '"' or '\' after it
-past_first : (bs cs : List ℕ) → IsUtf8 bs → 0 < length bs → chars bs ≡ cs → IsLiteral true bs
-    (1 + prefix_len plain (drop 1 bs))
-past_first bs [] u l e = absurd (omega (arith, ap length (sym (encodes-chars bs u) ∙ ap encode_utf8_all e)))
-past_first bs (c ∷ cs) u l e =
-    let whole : bs ≡ encode c ++ encode_utf8_all cs = sym (encodes-chars bs u) ∙ ap encode_utf8_all e in
-    let n = 1 + prefix_len plain (drop 1 bs) in
-    let long : n ≡ length (encode c ++ encode_utf8_all (front_of plain cs)) =
-    ap (λ s. 1 + prefix_len plain (drop 1 s)) whole ∙ past_char c (encode_utf8_all cs)
-    ∙ ap (λ k. length (encode c) + k) (front_encodes plain unescaped_steady cs)
-    ∙ sym (length-append (encode c) (encode_utf8_all (front_of plain cs))) in
-    let cut = cut_into bs (c ∷ front_of plain cs) (without_start plain cs) n u
-    (e ∙ ap (λ s. c ∷ s) (sym (take-append-drop (prefix_len plain cs) cs))) long in
-    record {
-      within = omega (arith, prefix_len-le-length plain (drop 1 bs), length-drop 1 bs);
-      boundary = cut.boundary;
-      value = ap (unescaped true) e ∙ first_stays c cs ∙ ap (λ s. c ∷ s) (plain_chars cs)
-          ∙ sym (cc (cut.front, cut.after));
-    }
-
--- the same, where m counts those after the first byte
-pub escaped_literal : (bs bytes : List ℕ) (m : ℕ) → IsUtf8 bs → 0 < length bs → bytes ≡ bs
-    → m ≡ prefix_len plain (take (length bytes - 1) (drop 1 bytes)) → IsLiteral true bs (1 + m)
-escaped_literal bs bytes m u l e f =
-    let rest = take_all (length bs - 1) (drop 1 bs) (omega (arith, length-drop 1 bs)) in
-    rw (f, e, rest) (past_first bs (chars bs) u l refl)
-
--- a '\' at the end stands for itself
-pub lone_escape : (bs rest : List ℕ) → after_mark 92 (chars bs) ≡ Some (chars rest) → (length rest == 0) ≡ true
-    → unescaped true (chars bs) ≡ unescaped false (chars bs)
-lone_escape bs rest e n = rw (mark_is 92 (chars bs) (chars rest) e, no_chars rest (grind (arith, eqb-true))) refl
-
--- a first code point other than '\' stands for itself
-other_first : (cs : List ℕ) → (cs ≡ [] → ⊥) → after_mark 92 cs ≡ None → unescaped true cs ≡ unescaped false cs
-other_first [] n e = absurd (n refl)
-other_first (c ∷ cs) n e = grind arith
-
--- so does that of a text
-pub no_escape : (bs : List ℕ) → IsUtf8 bs → 0 < length bs → after_mark 92 (chars bs) ≡ None
-    → unescaped true (chars bs) ≡ unescaped false (chars bs)
-no_escape bs u l e =
-    let none = λ (n : chars bs ≡ []). ap length (sym (encodes-chars bs u) ∙ ap encode_utf8_all n) in
-    other_first (chars bs) (λ n. omega (arith, none n)) e
-
--- a text that begins with a '\' is longer than the text after it
-pub escape_longer : (bs rest : List ℕ) → IsUtf8 bs → IsUtf8 rest → after_mark 92 (chars bs) ≡ Some (chars rest)
-    → length rest ≤ length bs
+-- the value of the bytes of a text is the value of the text, encoded
+unescaped_encodes : (e : Bool) (cs : List ℕ) → unescaped e (encode_utf8_all cs) ≡ encode_utf8_all (unescaped e cs)
 unfolding encode
-escape_longer bs rest u w e =
-    let whole : bs ≡ 92 ∷ rest = sym (encodes-chars bs u) ∙ ap encode_utf8_all (mark_is 92 (chars bs) (chars rest) e)
-    ∙ ap (λ s. 92 ∷ s) (encodes-chars rest w) in
-    omega (arith, ap length whole)
+unescaped_encodes false [] = refl
+unescaped_encodes true [] = refl
+unescaped_encodes true (c ∷ cs) = grind (arith, unescaped_char, encode_utf8_all, unescaped_encodes false cs)
+unescaped_encodes false (c ∷ cs) =
+    grind (arith, unescaped_char, encode_utf8_all, unescaped_encodes false cs, unescaped_encodes true cs)
 
--- v, the first n bytes of rest and the value of what follows them are together the value of the whole text
-pub record Unescaping (whole v rest : List ℕ) (n : ℕ) : Type 0 where
-  pub within : n ≤ length rest
-  pub boundary : IsCharBoundary rest n
-  pub value : v ++ (chars (take n rest) ++ unescaped false (chars (drop n rest))) ≡ unescaped false (chars whole)
+-- the code points of a value are scalar values
+unescaped_scalars : (e : Bool) (cs : List ℕ) → scalars cs ≡ true → scalars (unescaped e cs) ≡ true
+unescaped_scalars false [] h = refl
+unescaped_scalars true [] h = refl
+unescaped_scalars true (c ∷ cs) h = grind (arith, unescaped_scalars false cs)
+unescaped_scalars false (c ∷ cs) h = grind (arith, unescaped_scalars false cs, unescaped_scalars true cs)
 
--- so they are at the start
-pub unescapes : {whole bytes : List ℕ} {n : ℕ} (v : List ℕ) → IsUtf8 whole → bytes ≡ whole → n ≡ prefix_len plain bytes
-    → v ≡ [] → Unescaping whole (chars v) whole n
-unescapes {whole} {bytes} {n} v u e f z =
-    let h = plain_literal whole bytes n u e f in
-    record {
-      within = h.within;
-      boundary = h.boundary;
-      value = rw (z, chars-nil) (sym h.value);
-    }
+module _ {bs v : List ℕ} (u : IsUtf8 bs) (e : v ≡ unescaped false bs) where
+  -- so the value of the bytes of a text are the bytes of its value
+  value_encodes : encode_utf8_all (unescaped false (chars bs)) ≡ v
+  value_encodes = sym (e ∙ ap (unescaped false) (sym (encodes-chars bs u)) ∙ unescaped_encodes false (chars bs))
 
--- and so they are after the n bytes are moved to v, if what follows them has the value of s after a '\', and m bytes of
--- s stand for themselves
-pub unescapes_on : {whole v rest s : List ℕ} {n m : ℕ} (w : List ℕ) → Unescaping whole (chars v) rest n → IsUtf8 v
-    → w ≡ v ++ take n rest → unescaped true (chars s) ≡ unescaped false (chars (drop n rest))
-    → IsLiteral true s m → Unescaping whole (chars w) s m
-unescapes_on {whole} {v} {rest} {s} {n} {m} w h a e f l = record {
-  within = l.within;
-  boundary = l.boundary;
-  value =
-      let front = take n rest in
-      let after = unescaped false (chars (drop n rest)) in
-      cc (chars-append v front a, append_assoc (chars v) (chars front) after);
-}
+  -- they are UTF-8
+  pub value_utf8 : IsUtf8 v
+  value_utf8 =
+      (unescaped false (chars bs), (unescaped_scalars false (chars bs) (scalars-chars bs u), value_encodes))
 
--- if nothing follows the n bytes, v and these bytes are the value of the whole text
-pub unescapes_all : {whole v rest : List ℕ} {n : ℕ} (w : List ℕ) → Unescaping whole (chars v) rest n → IsUtf8 v
-    → length rest ≤ n → w ≡ v ++ rest → chars w ≡ unescaped false (chars whole)
-unescapes_all {whole} {v} {rest} {n} w h a l e =
-    let all : take n rest ≡ rest = take_all n rest l in
-    let none : drop n rest ≡ [] = drop_of_length-le rest {i = n} l in
-    cc (chars-append v rest a, chars-nil, append-nil (chars rest))
+  -- and spell this value
+  pub value_chars : chars v ≡ unescaped false (chars bs)
+  value_chars = ap chars (sym value_encodes)
+      ∙ chars-encodes (unescaped false (chars bs)) (unescaped_scalars false (chars bs) (scalars-chars bs u))
 
 -- a code point other than '"' and '\' comes before the closing quote
 first_quoted : (c : ℕ) (s : List ℕ) → plain c ≡ true → quoted_len false (c ∷ s) ≡ suc (quoted_len false s)

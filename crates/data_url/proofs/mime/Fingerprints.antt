@@ -1,12 +1,15 @@
 -- Fingerprints of names, and a search for one among them. For `kept.rt`.
-use Rattle.std.proofs.Common.{◌≡◌, ◌≢◌, ℕ, zero, suc, ◌+◌, ◌-◌, ◌*◌, ◌%◌, ◌<◌, ◌≤◌, ◌==◌, Bool, bit_or, not}
+use Rattle.std.proofs.Common.{◌≡◌, ◌≢◌, ℕ, zero, suc, ◌+◌, ◌-◌, ◌*◌, ◌%◌, ◌<◌, ◌≤◌, ◌==◌, Bool, bit_or}
 use Rattle.std.proofs.Common.{List, [], ◌∷◌, ◌++◌, length, map, take, drop, set, slice_index, refl, sym, ap, ◌∙◌, arith}
 use Rattle.std.proofs.Common.{⊎_elim, length-append, length-drop, length-take-le, take_all, false, true}
-use Rattle.std.{proofs.lemmas.Bool.{agree_below_at, cases_lt, eqb-false, eqb-true}, specs.List.{prefix_len}}
+use Rattle.std.{proofs.lemmas.Bool.{agree_below_at, cases_lt, eqb-true}}
 use Rattle.std.proofs.lemmas.List.{length-map, map-append, take-append-le, take_more_set}
-use Rattle.std.proofs.lemmas.Simd.{none_from_empty_mask, run_in_chunk_fails, run_in_chunk_stops, trailing_mask_l}
+use Rattle.std.proofs.{lemmas.Nat.Bits.{bit_at-suc, bit_at-trailing_zeros, bit_at_above, bit_at_and, bit_at_lowest}, lemmas.Simd.{bit_mask_l, mask_l-lt}}
+use Rattle.std.proofs.Common.{bit_and, cond, subst, w64, ◌^◌, ◌/◌}
+use Rattle.std.proofs.lemmas.List.{get_or-drop, get_or-map, get_or-take}
+use Rattle.std.specs.Int.{bit_at}
 use Rattle.std.{specs.Char.{to_ascii_lowercase}, specs.Int.Count.{count_trailing_zeros}, specs.Simd.Lanes.{mask_l}}
-use Rattle.data_url.specs.{Mime.{Pair}, Steps.Kept.{AreFingerprints, SkipsTo, fingerprint_of, first_of, letter_at}}
+use Rattle.data_url.specs.{Mime.{Pair}, Steps.Kept.{AreFingerprints, fingerprint_of, first_of, letter_at}}
 use Rattle.data_url.specs.declared.mime.kept.TheConstants.{CASE, FINGERPRINTS_LEN, LOOKED_THROUGH}
 
 -- the case bit of a byte can be set before or after it is put into lower case
@@ -32,40 +35,60 @@ fingerprint_is t last a b c fits l e f g = cc (
   letter_lower t (last - 2) (fits (last - 2)),
 )
 
--- if the mask of the items that pass is not 0, one of them passes
-some_passes : (p : ℕ → Bool) (xs : List ℕ) → mask_l (map p xs) ≢ 0 → prefix_len (λ x. not (p x)) xs < length xs
-some_passes p [] n = absurd (n refl)
-some_passes p (x ∷ xs) n = grind (arith, some_passes p xs)
+-- a row has sixteen bytes
+row_len : (bytes : List ℕ) (at : ℕ) → at + 16 ≤ length bytes → length (take 16 (drop at bytes)) ≡ 16
+row_len bytes at l = length-take-le 16 (drop at bytes) (omega (arith, length-drop {A = ℕ}))
 
-module _ {bytes : List ℕ} {b from at end marks : ℕ} (h : SkipsTo bytes b from at end) (room : at + 16 ≤ length bytes)
-    (e : marks ≡ mask_l (map (λ c. c == b) (take 16 (drop at bytes)))) where
-  -- the search goes on to a place if the bytes before it in the row at the place that was reached are not b
-  further : (to : ℕ) → at ≤ to → ((k : ℕ) → at ≤ k → k < to → (slice_index bytes k == b) ≡ false)
-      → SkipsTo bytes b from to end
-  further to l none = record {
-    on = omega (arith, h.on);
-    none = λ k g t m. ⊎_elim (λ (a : k < at). h.none k g a m) (λ (a : at ≤ k). eqb-false _ _ (none k a t))
-        (cases_lt k at);
-  }
+module _ (bytes : List ℕ) (at b : ℕ) {bits : ℕ} (l : at + 16 ≤ length bytes)
+    (e : bits ≡ mask_l (map (λ c. c == b) (take 16 (drop at bytes)))) where
+  -- so its bits are below 2 ^ 16
+  pub bits_few : bits < 65536
+  bits_few =
+      let tests = map (λ c. c == b) (take 16 (drop at bytes)) in
+      let size : length tests ≡ 16 = length-map (take 16 (drop at bytes)) (λ c. c == b) ∙ row_len bytes at l in
+      rw e (subst (λ n. mask_l tests < 2 ^ n) size (mask_l-lt tests))
 
-  -- if no byte of the row is b, the search goes on after the row
-  pub row_skipped : marks ≡ 0 → SkipsTo bytes b from (at + 16) end
-  row_skipped z = further (at + 16) (omega arith)
-      (none_from_empty_mask (λ c. c == b) bytes at 16 0 room (sym e ∙ z))
-
-  -- otherwise, it ends at the first byte of the row that is b
-  pub found_alike : (n : ℕ) → marks ≢ 0 → n ≡ count_trailing_zeros 64 marks
-      → SkipsTo bytes b from (at + n) end × (slice_index bytes (at + n) ≡ b)
-  found_alike n z f =
-      let row = take 16 (drop at bytes) in
+  -- where the bit of a row is not set, its byte is not b
+  pub unmarked : (k : ℕ) → k < 16 → bit_at bits k ≡ 0 → slice_index bytes (at + k) ≢ b
+  unmarked k m z =
       let p : ℕ → Bool = λ c. c == b in
-      let long = length-take-le 16 (drop at bytes) (omega (arith, length-drop {A = ℕ})) in
-      let counted : n ≡ prefix_len (λ c. not (p c)) row =
-      f ∙ ap (count_trailing_zeros 64) e ∙ trailing_mask_l p 64 row (omega arith) (omega (arith, e)) in
-      let few = some_passes p row (λ k. z (e ∙ k)) in (
-        further (at + n) (omega arith) (run_in_chunk_fails p bytes at 16 n 0 room counted),
-        eqb-true _ _ (run_in_chunk_stops p bytes at 16 n 0 room counted (omega arith)),
-      )
+      let row = take 16 (drop at bytes) in
+      let bit : cond (p (slice_index bytes (at + k))) 1 0 ≡ 0 =
+      ap (λ c. cond (p c) 1 0) (sym (get_or-drop at bytes k 0) ∙ sym (get_or-take 16 (drop at bytes) k 0 m))
+      ∙ ap (λ v. cond v 1 0) (sym (get_or-map p row k 0 false (omega (arith, row_len bytes at l)))) ∙ sym (bit_mask_l (map p row) k)
+      ∙ ap (λ n. bit_at n k) (sym e) ∙ z in
+      λ same. absurd (grind (arith, same, bit))
+
+-- the lowest bit of a number below 2 ^ 16 is one of the first sixteen
+pub lowest_few : {n t : ℕ} → n ≢ 0 → n < 65536 → t ≡ count_trailing_zeros 64 n → t < 16
+lowest_few {n} {t} z l e =
+    let low : (t < 64) × (bit_at n t ≡ 1) × ((i : ℕ) → i < t → bit_at n i ≡ 0) =
+    rw e (bit_at-trailing_zeros w64 n (omega arith) (omega arith)) in
+    ⊎_elim (λ (a : t < 16). a) (λ (a : 16 ≤ t). absurd (omega (arith, bit_at_above n 16 t l a, low.1))) (cases_lt t 16)
+
+-- if a bit is set in a number, but not in the number less one, no lower bit is set
+lowest : (n k : ℕ) → bit_at n k ≡ 1 → bit_at (n - 1) k ≡ 0 → (i : ℕ) → i < k → bit_at n i ≡ 0
+lowest n zero h z i l = absurd (omega arith)
+lowest n (suc k) h z i l = ⊎_elim (λ (e : n % 2 < 1).
+    let half : (n - 1) / 2 ≡ n / 2 - 1 = omega arith in
+    let less = ap (λ m. bit_at m k) (sym half) ∙ sym (bit_at-suc (n - 1) k) ∙ z in
+    ⊎_elim (λ (a : i < 1). let first : i ≡ 0 = omega arith in ap (bit_at n) first ∙ bit_at_lowest n ∙ omega arith)
+    (λ (a : 1 ≤ i).
+    let later : suc (i - 1) ≡ i = omega arith in
+    ap (bit_at n) (sym later) ∙ bit_at-suc n (i - 1)
+    ∙ lowest (n / 2) k (sym (bit_at-suc n k) ∙ h) less (i - 1) (omega arith)) (cases_lt i 1)) (λ (o : 1 ≤ n % 2).
+    let half : n / 2 ≡ (n - 1) / 2 = omega arith in
+    absurd (cc (h, z, bit_at-suc n k, bit_at-suc (n - 1) k, half))) (cases_lt (n % 2) 1)
+
+-- a bit that is set in n, and not in n & (n - 1), is the lowest one
+pub cleared : {n k t : ℕ} → n ≢ 0 → n < 2 ^ 64 → t ≡ count_trailing_zeros 64 n → bit_at n k ≡ 1
+    → bit_at (bit_and n (n - 1)) k ≡ 0 → k ≡ t
+cleared {n} {k} {t} z l e h c =
+    let low : (t < 64) × (bit_at n t ≡ 1) × ((i : ℕ) → i < t → bit_at n i ≡ 0) =
+    rw e (bit_at-trailing_zeros w64 n (omega arith) l) in
+    let less : bit_at (n - 1) k ≡ 0 = omega (arith, bit_at_and n (n - 1) k) in
+    ⊎_elim (λ (a : t < k). absurd (omega (arith, lowest n k h less t a, low.1))) (λ (a : k ≤ t).
+    ⊎_elim (λ (b : k < t). absurd (omega (arith, low.2 k b))) (λ (b : t ≤ k). omega arith) (cases_lt k t)) (cases_lt t k)
 
 module _ (bytes : List ℕ) (pairs : List Pair) (p : Pair) (room : length bytes ≡ FINGERPRINTS_LEN)
     (h : AreFingerprints (take (length (first_of pairs)) bytes) (first_of pairs)) where

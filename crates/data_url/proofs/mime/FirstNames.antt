@@ -4,6 +4,10 @@ use Rattle.std.proofs.Common.{false, cond, [], ◌∷◌, ◌++◌, get_or, drop
 use Rattle.std.proofs.Common.{slice_index, suc, ◌-◌, ⊎_elim}
 use Rattle.std.proofs.Common.{get_or-take, set, length-take, length-append, take-append-drop}
 use Rattle.std.proofs.Common.{◌≡◌, ℕ, List, String, ap, length, map, min, sym, take, ◌∙◌, ◌<◌, ◌||◌, ◌&&◌, Bool, true}
+use Rattle.std.proofs.Common.{length-drop, ◌≢◌, ◌==◌, ◌^◌, bit_and}
+use Rattle.std.{proofs.lemmas.Nat.Bits.{bit_at-lt}, specs.Int.{bit_at}, specs.Int.Count.{count_trailing_zeros}, specs.Simd.Lanes.{mask_l}}
+use Rattle.std.proofs.{Math.Bool.{or-true}, Math.Seq.{take-add}}
+use Rattle.std.proofs.lemmas.List.{get_or-drop}
 use Rattle.std.{proofs.Math.ListN.{drop_of_length-le}, proofs.lemmas.Map.Text.{btree_set_updates_text}}
 use Rattle.std.proofs.lemmas.Bool.{cond-true, not-false, not-true, agree_below_at, and_from, and_parts, cases_lt}
 use Rattle.std.{proofs.lemmas.Bool.{cond_both, false_from_ne_true}}
@@ -20,11 +24,10 @@ use Rattle.data_url.specs.{Mime.{Parses, Record, has_distinct_names, IsRecordOfP
 use Rattle.data_url.specs.Mime.{has_name, BeginsParameters, Item, Items, Pair, first_of_each_name, is_lowercase_name}
 use Rattle.data_url.specs.Mime.{is_token_text, kept_pairs, valid_of, valid_pairs, HasNoRecord, IsHead, IsWellformed}
 use Rattle.data_url.specs.Steps.Kept.{first_of, fingerprint_of, pairs_of, AreFingerprints, HasLaterNames, IsIndexed}
-use Rattle.data_url.specs.Steps.Kept.{SkipsTo}
 use Rattle.data_url.specs.Steps.Parsing.{HasLowercaseNames, added_pairs, after_mark, item_in, pair_if, reading_in}
 use Rattle.data_url.specs.{Steps.Parsing.{unless_named, HasNoHead}, declared.mime.kept.KeptParameters.{KeptParameters}}
 use Rattle.data_url.proofs.mime.Items.{has_items, has_parameter, items_are, items_in, rest_shorter}
-use Rattle.data_url.proofs.mime.Fingerprints.{alike_first, alike_later}
+use Rattle.data_url.proofs.mime.Fingerprints.{alike_first, alike_later, cleared, unmarked}
 use Rattle.data_url.proofs.{mime.Parsing.{mark_is}, texts.CodePoints.{no_chars}}
 use Rattle.data_url.proofs.mime.TokenTexts.{bytes_of_ascii, token_text_ascii, token_text_chars}
 
@@ -79,21 +82,47 @@ pub some_byte : (n : List ℕ) → is_token_text (chars n) ≡ true → 0 < leng
 some_byte [] h = grind (arith, chars-nil)
 some_byte (b ∷ n) h = omega arith
 
--- none of the pairs up to a place has the name
-abbrev pub NoneNamed : List ℕ → List Pair → ℕ → Type 0
-NoneNamed n pairs place = (k : ℕ) → k < place → k < length pairs → bytes_eq (get_or pairs k ([], [])).0 n ≡ false
+-- if none of the pairs at any place has the name, none has it
+all_unnamed : (n : List ℕ) (pairs : List Pair)
+    → ((k : ℕ) → k < length pairs → bytes_eq (get_or pairs k ([], [])).0 n ≡ false) → has_name n pairs ≡ false
+all_unnamed n [] h = refl
+all_unnamed n (p ∷ pairs) h = grind (arith, h 0 (omega arith), all_unnamed n pairs (λ k l. h (suc k) (omega arith)))
 
--- if none of the pairs up to their end has the name, none has it
-all_unnamed : (n : List ℕ) (pairs : List Pair) (place : ℕ) → NoneNamed n pairs place → length pairs ≤ place
-    → has_name n pairs ≡ false
-all_unnamed n [] place h l = refl
-all_unnamed n (p ∷ pairs) place h l =
-    grind (arith, h 0 (omega arith), all_unnamed n pairs (place - 1) (λ k m r. h (suc k) (omega arith) (omega arith)))
+-- none of the pairs of a row has the name whose bit is not set
+pub record NoneUnset (n : List ℕ) (pairs : List Pair) (at left : ℕ) : Type 0 where
+  pub unset : (k : ℕ) → k < 16 → bit_at left k ≡ 0 → at + k < length pairs
+      → bytes_eq (get_or pairs (at + k) ([], [])).0 n ≡ false
+
+module _ (n : List ℕ) (pairs : List Pair) (at : ℕ) where
+  -- if the bits of those that are there are not set, none of the row has the name
+  row_unnamed : {left : ℕ} → NoneUnset n pairs at left
+      → ((k : ℕ) → at + k < length pairs → bit_at left k ≡ 0) → has_name n (take 16 (drop at pairs)) ≡ false
+  row_unnamed h z =
+      let long = length-take 16 (drop at pairs) in
+      let left = length-drop at pairs in
+      all_unnamed n (take 16 (drop at pairs)) (λ k l.
+      let same : get_or (take 16 (drop at pairs)) k ([], []) ≡ get_or pairs (at + k) ([], []) =
+      get_or-take 16 (drop at pairs) k ([], []) (omega arith) ∙ get_or-drop at pairs k ([], []) in
+      rw same (h.unset k (omega arith) (z k (omega arith)) (omega arith)))
+
+  -- if one of a row has it, one has it
+  pub row_named : has_name n (take 16 (drop at pairs)) ≡ true → has_name n pairs ≡ true
+  row_named h =
+      let p : Pair → Bool = λ q. bytes_eq q.0 n in
+      let from : has_name n (drop at pairs) ≡ true = ap (has_name n) (sym (take-append-drop 16 (drop at pairs)))
+      ∙ list_any-append p (take 16 (drop at pairs)) (drop 16 (drop at pairs)) ∙ ap (λ b. b || has_name n (drop 16 (drop at pairs))) h in
+      ap (has_name n) (sym (take-append-drop at pairs)) ∙ list_any-append p (take at pairs) (drop at pairs)
+      ∙ ap (λ b. has_name n (take at pairs) || b) from ∙ or-true (has_name n (take at pairs))
+
+  -- if none before a row and none of the row has it, none before the end of the row has it
+  pub row_further : has_name n (take at pairs) ≡ false → has_name n (take 16 (drop at pairs)) ≡ false
+      → has_name n (take (at + 16) pairs) ≡ false
+  row_further h k = rw (take-add at 16 pairs) (list_any-append (λ (p : Pair). bytes_eq p.0 n) (take at pairs) (take 16 (drop at pairs)) ∙ cc)
 
 module _ {kept : KeptParameters} {len : ℕ} (x : IsIndexed kept)
     (e : len ≡ min LOOKED_THROUGH (length kept.pairs.items)) where
   -- there are so many first pairs
-  first_len : length (first_of (pairs_of kept)) ≡ len
+  pub first_len : length (first_of (pairs_of kept)) ≡ len
   first_len = simp (length-take, length-map) (omega arith)
 
   -- the fingerprint at a place is that of the name of the pair there
@@ -111,20 +140,22 @@ module _ {kept : KeptParameters} {len : ℕ} (x : IsIndexed kept)
     same_name : chars n ≡ n
     same_name = sym (bytes_of_ascii n u (token_text_ascii (chars n) h))
 
-    -- none of the pairs before a place has the name if none before an earlier one has it, and no fingerprint between is
-    -- that of the name
-    pub none_between : {from to : ℕ} → NoneNamed (map to_ascii_lowercase (chars n)) (first_of (pairs_of kept)) from
-        → SkipsTo kept.fingerprints b from to len
-        → NoneNamed (map to_ascii_lowercase (chars n)) (first_of (pairs_of kept)) to
-    none_between {from} {to} g s = λ k m l. ⊎_elim (λ (a : k < from). g k a l) (λ (a : from ≤ k).
-        let within : k < len = omega (arith, first_len) in
-        test_from_different _ _ (λ same. s.none k a m within (fingerprint_at k within
-        ∙ ap fingerprint_of (same ∙ ap (map to_ascii_lowercase) same_name) ∙ sym f))) (cases_lt k from)
+    -- a pair does not have the name if its fingerprint is not that of the name
+    pub none_unset : (at : ℕ) {bits : ℕ} → at + 16 ≤ length kept.fingerprints
+        → bits ≡ mask_l (map (λ c. c == b) (take 16 (drop at kept.fingerprints)))
+        → NoneUnset (map to_ascii_lowercase (chars n)) (first_of (pairs_of kept)) at bits
+    none_unset at r m = record {
+      unset = λ k l z w.
+          let within : at + k < len = omega (arith, first_len) in
+          test_from_different _ _ (λ same. unmarked kept.fingerprints at b r m k l z (fingerprint_at (at + k) within
+          ∙ ap fingerprint_of (same ∙ ap (map to_ascii_lowercase) same_name) ∙ sym f));
+    }
 
-    -- if none up to the end has it, none has it
-    pub none_named : {place : ℕ} → NoneNamed (map to_ascii_lowercase (chars n)) (first_of (pairs_of kept)) place
-        → len ≤ place → false ≡ has_name (map to_ascii_lowercase (chars n)) (first_of (pairs_of kept))
-    none_named {place} g l = sym (all_unnamed _ (first_of (pairs_of kept)) place g (omega (arith, first_len)))
+    -- if the bits of those that are there are not set, none of the row has the name
+    pub none_named : {at left : ℕ} → NoneUnset (map to_ascii_lowercase (chars n)) (first_of (pairs_of kept)) at left
+        → ((k : ℕ) → at + k < len → bit_at left k ≡ 0)
+        → false ≡ has_name (map to_ascii_lowercase (chars n)) (take 16 (drop at (first_of (pairs_of kept))))
+    none_named {at} g z = sym (row_unnamed _ (first_of (pairs_of kept)) at g (λ k l. z k (omega (arith, first_len))))
 
     module _ {place : ℕ} {item : String Global × String Global} {key : List ℕ} (l : place < len) (g : item
         ≡ get_or kept.pairs.items place item) (k : key ≡ string_bytes item.0) where
@@ -144,24 +175,34 @@ module _ {kept : KeptParameters} {len : ℕ} (x : IsIndexed kept)
       key_at : (get_or (first_of (pairs_of kept)) place ([], [])).0 ≡ map to_ascii_lowercase key
       key_at = ap (λ (p : Pair). p.0) item_at ∙ sym (key_is.0 ∙ key_is.1)
 
-      -- if its key is the name in any ASCII case, one of the pairs has the name
-      pub found_named : map to_ascii_lowercase key ≡ map to_ascii_lowercase n
-          → true ≡ has_name (map to_ascii_lowercase (chars n)) (first_of (pairs_of kept))
-      found_named s =
+      -- if its key is the name in any ASCII case, one of the pairs of its row has the name
+      pub found_named : {at : ℕ} → at ≤ place → place < at + 16 → map to_ascii_lowercase key ≡ map to_ascii_lowercase n
+          → true ≡ has_name (map to_ascii_lowercase (chars n)) (take 16 (drop at (first_of (pairs_of kept))))
+      found_named {at} a m s =
           let first = first_of (pairs_of kept) in
           let n' = map to_ascii_lowercase (chars n) in
-          sym (list_any_at (λ (p : Pair). bytes_eq p.0 n') first place ([], []) (omega (arith, first_len))
-          ((bytes_eq-Decides _ n').1 (key_at ∙ s ∙ ap (map to_ascii_lowercase) (sym same_name))))
+          let same : get_or (take 16 (drop at first)) (place - at) ([], []) ≡ get_or first place ([], []) =
+          get_or-take 16 (drop at first) (place - at) ([], []) (omega arith)
+          ∙ get_or-drop at first (place - at) ([], []) ∙ ap (λ i. get_or first i ([], [])) (omega arith) in
+          let long = length-take 16 (drop at first) in
+          let left = length-drop at first in
+          sym (list_any_at (λ (p : Pair). bytes_eq p.0 n') (take 16 (drop at first)) (place - at) ([], [])
+          (omega (arith, first_len))
+          ((bytes_eq-Decides _ n').1 (ap (λ (p : Pair). p.0) same ∙ key_at ∙ s ∙ ap (map to_ascii_lowercase) (sym same_name))))
 
-      -- otherwise, none up to the next place has it if none up to this place has it
-      pub one_more : NoneNamed (map to_ascii_lowercase (chars n)) (first_of (pairs_of kept)) place
+      -- otherwise, the bit of this place, which is the lowest, is cleared
+      pub one_cleared : {at left t : ℕ} → NoneUnset (map to_ascii_lowercase (chars n)) (first_of (pairs_of kept)) at left
+          → left ≢ 0 → left < 2 ^ 64 → t ≡ count_trailing_zeros 64 left → place ≡ at + t
           → (map to_ascii_lowercase key ≡ map to_ascii_lowercase n → ⊥)
-          → NoneNamed (map to_ascii_lowercase (chars n)) (first_of (pairs_of kept)) (place + 1)
-      one_more g s = λ j m r. ⊎_elim (λ (a : j < place). g j a r) (λ (a : place ≤ j).
-          let at : j ≡ place = omega arith in
-          test_from_different _ _ (λ same. s (sym key_at
-          ∙ ap (λ i. (get_or (first_of (pairs_of kept)) i ([], [])).0) (sym at) ∙ same
-          ∙ ap (map to_ascii_lowercase) same_name))) (cases_lt j place)
+          → NoneUnset (map to_ascii_lowercase (chars n)) (first_of (pairs_of kept)) at (bit_and left (left - 1))
+      one_cleared {at} {left} g w v y i s = record {
+        unset = λ k m z r. ⊎_elim (λ (a : bit_at left k < 1). g.unset k m (omega arith) r)
+            (λ (a : 1 ≤ bit_at left k).
+            let here : at + k ≡ place = omega (arith, cleared w v y (omega (arith, bit_at-lt left k)) z) in
+            test_from_different _ _ (λ same. s (sym key_at
+            ∙ ap (λ i. (get_or (first_of (pairs_of kept)) i ([], [])).0) (sym here) ∙ same
+            ∙ ap (map to_ascii_lowercase) same_name))) (cases_lt (bit_at left k) 1);
+      }
 
 -- one of the pairs has a name after p is pushed exactly if one had it before, or p has it
 has_pushed : (n : List ℕ) (xs : List Pair) (p : Pair) → has_name n (xs ++ (p ∷ [])) ≡ (has_name n xs || bytes_eq p.0 n)

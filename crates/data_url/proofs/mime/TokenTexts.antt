@@ -233,7 +233,7 @@ others_len [] r h = grind arith
 others_len (b ∷ bs) r h = grind (arith, others_len bs r h.1)
 
 -- the bytes of a code point that is not ASCII are not ASCII
-encode_others : (c : ℕ) → 128 ≤ c → Every (λ b. nat_le 128 b) (encode c)
+pub encode_others : (c : ℕ) → 128 ≤ c → Every (λ b. nat_le 128 b) (encode c)
 unfolding encode
 encode_others c l = grind arith
 

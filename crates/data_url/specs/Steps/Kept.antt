@@ -1,6 +1,6 @@
 -- What the private contracts of the MIME parser see of the parameters that it has kept so far.
 use Rattle.std.specs.BTreeSet.{BTreeSet, contains_text}
-use Rattle.std.specs.Prelude.{◌%◌, ◌*◌, ◌+◌, ◌-◌, ◌<◌, ◌≡◌, ◌≢◌, ◌≤◌, List, String, bit_or, drop, length}
+use Rattle.std.specs.Prelude.{◌%◌, ◌*◌, ◌+◌, ◌-◌, ◌≡◌, List, String, bit_or, drop, length}
 use Rattle.std.specs.Prelude.{map, slice_index, take, ℕ}
 use Rattle.data_url.specs.Mime.{Pair, has_name}
 use Rattle.data_url.specs.MimeType.{pair_of}
@@ -34,11 +34,6 @@ fingerprint_of name =
 -- the bytes are the fingerprints of the names of the pairs, in order
 abbrev pub AreFingerprints : List ℕ → List Pair → Type 0
 AreFingerprints bytes pairs = bytes ≡ map (λ (p : Pair). fingerprint_of p.0) pairs
-
--- no place from `from` on that is before `to` and before `end` has this byte
-pub record SkipsTo (bytes : List ℕ) (b from to end : ℕ) : Type 0 where
-  pub on : from ≤ to
-  pub none : (k : ℕ) → from ≤ k → k < to → k < end → slice_index bytes k ≢ b
 
 -- all names are lower-case, the fingerprints are those of the first pairs, and the set holds the names of the later
 -- pairs

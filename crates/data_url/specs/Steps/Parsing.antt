@@ -5,7 +5,7 @@ use Rattle.std.specs.List.{list_all, prefix_len}
 use Rattle.std.specs.Prelude.{[], if◌then◌else◌, ◌&&◌, ◌++◌, ◌==◌, ◌||◌, ◌∷◌, ◌≡◌, ◌≤◌, ◌<◌, ◌+◌, Bool, IsTrue}
 use Rattle.std.specs.Prelude.{List, None, Option, Some, drop, false, length, map, not, slice_index, suc, take, true}
 use Rattle.std.specs.Prelude.{zero, ℕ}
-use Rattle.std.specs.Str.{IsCharBoundary, chars}
+use Rattle.std.specs.Str.{chars}
 use Rattle.data_url.specs.CodePoints.{ends_name, is_http_whitespace, is_quotable, is_semicolon, is_token}
 use Rattle.data_url.specs.Mime.{Every, IsHead, Item, Pair, has_name, is_lowercase_name, is_token_text, unless_empty, valid_of}
 use Rattle.data_url.specs.Url.{without_end, without_start}
@@ -71,12 +71,6 @@ abbrev pub unescaped : Bool → List ℕ → List ℕ
 unescaped false [] = []
 unescaped true [] = 92 ∷ []
 unescaped escaped (c ∷ s) = if (c == 92) && not escaped then unescaped true s else c ∷ unescaped false s
-
--- a text can be cut after n bytes, and they stand for themselves; the flag says whether a '\' comes before the text
-pub record IsLiteral (escaped : Bool) (text : List ℕ) (n : ℕ) : Type 0 where
-  pub within : n ≤ length text
-  pub boundary : IsCharBoundary text n
-  pub value : unescaped escaped (chars text) ≡ chars (take n text) ++ unescaped false (chars (drop n text))
 
 -- a value, if there is one, and the text after it
 pub record Reading : Type 0 where

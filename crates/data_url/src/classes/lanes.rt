@@ -59,14 +59,20 @@ pub(crate) fn is_unmarked(others: [u8; 16], row: u8x16) -> bool
     looked_up(others, row).reduce_or() == 0
 }
 
-/// Returns the length of some whole rows at the start whose bytes are all in a class.
+/// Returns how many bytes come before the first marked byte of the whole rows, or the length of these rows if there is none.
+/// All these bytes are in the class.
 #[inline(always)]
 pub(crate) fn rows_len(others: [u8; 16], bytes: &[u8]) -> usize
     ensures within { result ≤ length bytes.now }
     ensures prefix { AreOf others bytes.now result }
 {
+    let end = bytes.len().saturating_sub(ROW - 1);
     let mut at = 0;
-    while bytes.len() - at >= ROW && marks(others, row(bytes, at)) == 0 {
+    while at < end {
+        let row = row(bytes, at);
+        if !is_unmarked(others, row) {
+            return at + marks(others, row).trailing_zeros() as usize;
+        }
         at += ROW;
     }
     at

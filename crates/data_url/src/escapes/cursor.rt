@@ -66,8 +66,7 @@ impl<'a> Cursor<'a> {
     /// A walk that begins at the start of a text.
     pub(super) fn new(text: &'a str) -> Self
         ensures walk { walk_of result ≡ walk_at_start text.entry.now }
-        ensures looking { Looking result.source result.block 0 0 }
-        ensures unseen { result.block.seen ≡ 0 }
+        ensures unread { result.source.looks ≡ 0 }
         ensures knows { Knows result }
     {
         Cursor {
@@ -82,13 +81,12 @@ impl<'a> Cursor<'a> {
         }
     }
 
-    /// The bytes before the first marked byte. The walk goes there. The first byte is read by itself: if it is marked, the bytes
-    /// after it can be packed.
+    /// The bytes before the first marked byte. The walk goes there. If the first byte is a `%`, it is read by itself, so that the
+    /// bytes after its escape can be packed.
     #[inline(always)]
     pub(super) fn next_prefix(&mut self) -> &'a [u8]
         requires start { self.old.place ≡ 0 }
-        requires looking { Looking self.old.source self.old.block 0 0 }
-        requires unseen { self.old.block.seen ≡ 0 }
+        requires unread { self.old.source.looks ≡ 0 }
         ensures prefix { IsBodyPrefix (text_of self.old) result.now (walk_of self.new) }
         ensures knows { Knows self.new }
     {

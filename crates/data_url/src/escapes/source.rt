@@ -6,7 +6,7 @@ ghost use Rattle.std.specs.Prelude.{◌≡◌, IsTrue, [], ◌+◌, ◌-◌, ◌
 ghost use Rattle.std.specs.Simd.Lanes.{mask_l};
 ghost use Rattle.std.specs.Option.{option_map};
 ghost use Rattle.data_url.specs.Steps.Tail.{IsBodyEnd};
-ghost use Rattle.data_url.specs.Steps.Walk.{IsBlock};
+ghost use Rattle.data_url.specs.Steps.Walk.{IsBlock, Looking};
 ghost use Rattle.data_url.specs.Steps.Window.{is_marked};
 ghost use Rattle.data_url.specs.Url.{after, number_sign};
 
@@ -69,26 +69,20 @@ impl<'a> Source<'a> {
         u8x64::from_slice(&self.text.as_bytes()[place..])
     }
 
-    /// Reads the first byte of the text as a block, if there is one. It counts as a look.
+    /// Reads the first byte of a text as a block if it is a `%`. Otherwise the block is empty: of another first byte, the look
+    /// does not count against the bound.
     #[inline(always)]
     pub(super) fn look_first(&mut self) -> Block
-        ensures base { result.base ≡ 0 }
-        ensures seen { result.seen ≡ min 1 (length self.old.text.now) }
-        ensures block { IsBlock self.old.text.now 0 result.seen result.marks }
+        requires unread { self.old.looks ≡ 0 }
+        ensures looking { Looking self.new result 0 0 }
         ensures text { self.new.text.now ≡ self.old.text.now }
-        ensures looks { self.new.looks ≡ self.old.looks + result.seen }
     {
-        let mut block = Block {
+        let is_percent = self.len() > 0 && self.look(0) == b'%';
+        Block {
             base: 0,
-            seen: 0,
-            marks: 0,
-        };
-        if self.len() > 0 {
-            let is_marked = matches!(self.look(0), b'\t' | b'\n' | b'\r' | b'#' | b'%');
-            block.seen = 1;
-            block.marks = u64::from(is_marked);
+            seen: usize::from(is_percent),
+            marks: u64::from(is_percent),
         }
-        block
     }
 
     /// Returns the text from a place on. Each of its bytes counts as a look.

@@ -1,13 +1,13 @@
 //! The parameters that are kept while a MIME type is read: of each name the first.
 
-ghost use Rattle.std.specs.Prelude.{false, ◌≡◌, ◌==◌, ◌<◌, ◌≤◌, ◌+◌, ◌++◌, ◌∷◌, [], IsTrue, OnOk, length, map, slice_index};
+ghost use Rattle.std.specs.Prelude.{false, ◌≡◌, ◌==◌, ◌<◌, ◌≤◌, ◌+◌, ◌++◌, ◌∷◌, [], IsTrue, OnOk, drop, length, map, take};
 ghost use Rattle.std.specs.Char.{to_ascii_lowercase};
 ghost use Rattle.std.specs.Simd.Lanes.{mask_l};
 ghost use Rattle.std.specs.Str.{chars};
 ghost use Rattle.data_url.specs.Mime.{has_name, is_lowercase_name, is_token_text};
 ghost use Rattle.data_url.specs.MimeType.{code_points};
 ghost use Rattle.data_url.specs.Steps.Parsing.{unless_named};
-ghost use Rattle.data_url.specs.Steps.Kept.{IsIndexed, SkipsTo, fingerprint_of, first_of, pairs_of};
+ghost use Rattle.data_url.specs.Steps.Kept.{IsIndexed, fingerprint_of, first_of, pairs_of};
 
 use crate::classes::lanes::{ROW, row};
 use std::alloc::AllocError;
@@ -43,12 +43,40 @@ impl KeptParameters {
     {
         let len = LOOKED_THROUGH.min(self.pairs.len());
         let fingerprint = fingerprint(name);
-        let mut place = next_alike(&self.fingerprints, fingerprint, 0, len);
-        while place < len {
+        let mut at = 0;
+        while at < len {
+            let bits = alike(fingerprint, row(&self.fingerprints, at));
+            if self.is_in_row(name, at, bits) {
+                return true;
+            }
+            at += ROW;
+        }
+        false
+    }
+
+    /// Whether one of the first pairs whose fingerprints are in the row at a place has the name, in any ASCII case. A bit is set
+    /// for each fingerprint of the row that the name has, too.
+    #[inline(always)]
+    fn is_in_row(&self, name: &str, at: usize, bits: u64) -> bool
+        requires indexed { IsIndexed self.now }
+        requires token { IsTrue (is_token_text (chars name.now)) }
+        requires within { at + 16 ≤ length self.now.fingerprints }
+        requires bits { bits ≡ mask_l (map (λ b. b == fingerprint_of (map to_ascii_lowercase name.now))
+            (take 16 (drop at self.now.fingerprints))) }
+        ensures { result ≡ has_name (map to_ascii_lowercase (chars name.now))
+            (take 16 (drop at (first_of (pairs_of self.now)))) }
+    {
+        let end = LOOKED_THROUGH.min(self.pairs.len());
+        let mut left = bits;
+        while left != 0 {
+            let place = at + left.trailing_zeros() as usize;
+            if place >= end {
+                return false;
+            }
             if self.pairs[place].0.eq_ignore_ascii_case(name) {
                 return true;
             }
-            place = next_alike(&self.fingerprints, fingerprint, place + 1, len);
+            left &= left - 1;
         }
         false
     }
@@ -96,28 +124,4 @@ fn alike(fingerprint: u8, row: u8x16) -> u64
     ensures { result ≡ mask_l (map (λ b. b == fingerprint) row) }
 {
     row.simd_eq(u8x16::splat(fingerprint)).to_bitmask()
-}
-
-/// Returns the first place with this fingerprint from a place on. If there is none before the end, returns the end or
-/// a later place.
-#[inline(always)]
-fn next_alike(
-    fingerprints: &[u8; FINGERPRINTS_LEN],
-    fingerprint: u8,
-    from: usize,
-    end: usize,
-) -> usize
-    requires { end ≤ 128 }
-    ensures skips { SkipsTo fingerprints.now fingerprint from result end }
-    ensures found { result < end → slice_index fingerprints.now result ≡ fingerprint }
-{
-    let mut at = from;
-    while at < end {
-        let marks = alike(fingerprint, row(fingerprints, at));
-        if marks != 0 {
-            return at + marks.trailing_zeros() as usize;
-        }
-        at += ROW;
-    }
-    at
 }

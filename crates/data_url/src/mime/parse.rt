@@ -16,7 +16,7 @@ use super::cuts::{
 use super::kept::{FINGERPRINTS_LEN, KeptParameters};
 use super::tokens::{split_name, split_tokens};
 use super::values::{Value, lowercased};
-use crate::classes::{Class, long_span};
+use crate::classes::{Class, long_span, span_if_any};
 use std::alloc::{AllocError, Global};
 use std::collections::BTreeSet;
 
@@ -175,7 +175,7 @@ fn next_quoting(bytes: &[u8], place: usize) -> usize
     ensures quoting { Quoting bytes.now result }
 {
     let from = bytes.len().min(place + 2);
-    from + long_span(Class::Unescaped, &bytes[from..])
+    from + span_if_any(Class::Unescaped, &bytes[from..])
 }
 
 /// The length of the shortest valid parameter, such as `;a=b`, in bytes; about half of what most take.

@@ -1,16 +1,16 @@
 //! Values of parameters, as slices of a text and as texts of their own.
 #![tactic(auto, using(crate::proofs::mime::FirstNames::lower_chars, crate::proofs::mime::Parsing::quotable_by))]
 
-ghost use Rattle.std.specs.Prelude.{◌≡◌, ◌<◌, ◌≤◌, IfOk, IsTrue, false, length, map, true};
+ghost use Rattle.std.specs.Prelude.{◌≡◌, ◌<◌, ◌≤◌, ◌+◌, ◌++◌, IfOk, IsTrue, drop, false, length, map, take, true};
 ghost use Rattle.std.specs.Char.{to_ascii_lowercase};
 ghost use Rattle.std.specs.Option.{option_map};
 ghost use Rattle.std.specs.Str.{chars};
 ghost use Rattle.data_url.specs.Mime.{is_token_text};
-ghost use Rattle.data_url.specs.Steps.Parsing.{IsLiteral, unescaped, value_of};
+ghost use Rattle.data_url.specs.Steps.Parsing.{unescaped, value_of};
 ghost use Rattle.data_url.specs.MimeType.{code_points};
 
-use super::cuts::after_mark;
-use crate::classes::{Class, long_span};
+use crate::classes::lanes::{ROW, is_unmarked, marks, put, row};
+use crate::classes::{Class, ESCAPED, has, long_span};
 use std::alloc::{AllocError, Global};
 
 /// A value as a slice of a text.
@@ -44,46 +44,58 @@ impl<'a> Value<'a> {
 fn unescaped(alloc: Global, quoted: &str) -> Result<String, AllocError>
     ensures { IfOk result (λ text. code_points text ≡ unescaped false (chars quoted.now)) }
 {
-    let mut len = long_span(Class::Unescaped, quoted.as_bytes());
-    if len == quoted.len() {
+    let bytes = quoted.as_bytes();
+    if long_span(Class::Unescaped, bytes) == bytes.len() {
         return String::from_str(alloc, quoted);
     }
-    let mut value = String::with_capacity(alloc, quoted.len())?;
-    let mut rest = quoted;
-    while len < rest.len() {
-        value.push_str(&rest[..len])?;
-        rest = without_escape(&rest[len..]);
-        len = literal_len(rest);
+    let mut value = vec![in alloc; 0; bytes.len()]?;
+    let mut at = 0;
+    let mut len = 0;
+    while at < bytes.len() {
+        at += escape_len(bytes, at);
+        value[len] = bytes[at];
+        let copied = 1 + copy_rows(&bytes[at + 1..], &mut value, len + 1);
+        at += copied;
+        len += copied;
     }
-    value.push_str(rest)?;
-    Ok(value)
+    value.truncate(len);
+    Ok(unsafe { String::from_utf8_unchecked(value) })
 }
 
-/// Returns the text without the `\` that it begins with, if this is before a code point.
+/// Returns 1 if a `\` is at a place, and a byte comes after it. Returns 0 otherwise.
 #[inline(always)]
-fn without_escape(text: &str) -> &str
-    requires { 0 < length text.now }
-    ensures some { 0 < length result.now }
-    ensures shorter { length result.now ≤ length text.now }
-    ensures value { unescaped true (chars result.now) ≡ unescaped false (chars text.now) }
+fn escape_len(bytes: &[u8], at: usize) -> usize
+    requires { at < length bytes.now }
+    ensures within { at + result < length bytes.now }
+    ensures value { unescaped true (drop (at + result) bytes.now) ≡ unescaped false (drop at bytes.now) }
 {
-    let Some(after) = after_mark(text, '\\') else {
-        return text;
-    };
-    if after.is_empty() {
-        return text;
-    }
-    after
+    usize::from(bytes[at] == b'\\' && at + 1 < bytes.len())
 }
 
-/// Returns how many bytes stand for themselves at the start of a text whose first code point does.
+/// Copies the bytes before the first `"` or `\` of the whole rows of a text, or all of these rows if there is none. Returns how
+/// many bytes are copied. Bytes after them may be overwritten. The first byte is tested by itself, since one escape often follows
+/// another.
 #[inline(always)]
-fn literal_len(text: &str) -> usize
-    requires { 0 < length text.now }
-    ensures some { 0 < result }
-    ensures literal { IsLiteral true text.now result }
+fn copy_rows(text: &[u8], value: &mut [u8], len: usize) -> usize
+    requires { len + length text.now ≤ length value.old }
+    ensures within { result ≤ length text.now }
+    ensures copied { take (len + result) value.new ≡ take len value.old ++ take result text.now }
+    ensures plain { unescaped false text.now
+        ≡ take result text.now ++ unescaped false (drop result text.now) }
 {
-    1 + long_span(Class::Unescaped, &text.as_bytes()[1..])
+    if text.len() < ROW || !has(Class::Unescaped, text[0]) {
+        return 0;
+    }
+    let mut copied = 0;
+    while text.len() - copied >= ROW {
+        let row = row(text, copied);
+        put(value, len + copied, row);
+        if !is_unmarked(ESCAPED, row) {
+            return copied + marks(ESCAPED, row).trailing_zeros() as usize;
+        }
+        copied += ROW;
+    }
+    copied
 }
 
 /// A text of token code points, in ASCII lower case.

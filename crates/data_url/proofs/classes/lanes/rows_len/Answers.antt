@@ -1,10 +1,14 @@
-use Rattle.std.proofs.Common.{arith, ap, map, ◌∙◌}
-use lib.Lanes.{mask_l}
-use Rattle.data_url.specs.Steps.Classes.{is_marked}
-use Rattle.data_url.proofs.classes.Rows.{one_row_more}
+use Rattle.std.proofs.Common.{arith, ap}
+use lib.Count.{count_trailing_zeros}
+use Rattle.data_url.proofs.classes.Rows.{one_row_more, row_front}
 use Rattle.data_url.proofs.classes.lanes.rows_len.Goals as goal
 
+pub returns-then-not-is_unmarked : goal.returns-then-not-is_unmarked
+returns-then-not-is_unmarked c =
+    let h = row_front c.args.others c.args.bytes.now c.loop-at.at c.loop-at.invariant (omega (arith, c.loop-at-test.true))
+    c.row-row.ensures c.is_unmarked.ensures _ c.if-not-is_unmarked.true (ap (count_trailing_zeros 64) c.marks.ensures) in
+    record { within = h.1.within; prefix = h.1.front }
+
 pub loop-at-preserved : goal.loop-at-preserved
-loop-at-preserved c = one_row_more c.args.others c.args.bytes.now c.loop-at.at c.marks.result c.loop-at.invariant
-    (omega (arith, c.loop-at-test.true)) (c.marks.ensures ∙ ap (λ v. mask_l (map (is_marked c.args.others) v)) c.row.ensures)
-    c.if-marks-eq0.true
+loop-at-preserved c = one_row_more c.args.others c.args.bytes.now c.loop-at.at c.loop-at.invariant
+    (omega (arith, c.loop-at-test.true)) c.row-row.ensures c.is_unmarked.ensures c.if-not-is_unmarked.false

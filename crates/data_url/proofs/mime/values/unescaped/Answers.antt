@@ -1,31 +1,18 @@
-use Rattle.std.{proofs.Common.{ap, arith, false, string_bytes, rules, ◌∙◌}, proofs.lemmas.Result.{IfOk-weaker}}
-use Rattle.std.proofs.lemmas.Str.{IsUtf8-string_bytes}
-use Rattle.std.specs.Str.{chars}
-use Rattle.data_url.specs.Steps.Parsing.{unescaped}
-use Rattle.data_url.proofs.mime.{Escapes.{unescapes, unescapes_all, unescapes_on}, Parsing.{copied}}
+use Rattle.std.{proofs.Common.{Global, Vec, ap, length, string_bytes, ℕ, ◌∙◌}, proofs.lemmas.Result.{IfOk-weaker}}
+use Rattle.data_url.proofs.mime.{Escapes.{unescapes_all, value_chars, value_utf8}, Parsing.{copied}}
 use Rattle.data_url.proofs.mime.values.unescaped.Goals as goal
 
-pub returns-then-len-quoted : goal.returns-then-len-quoted
-returns-then-len-quoted c =
+pub returns-then-long_span-bytes : goal.returns-then-long_span-bytes
+returns-then-long_span-bytes c =
     IfOk-weaker c.from_str.result _ _ (λ text h. copied (string_bytes text) c.args.quoted.now _ _ c.utf8.quoted
-    c.as_bytes.ensures.value c.long_span-len.ensures.prefix c.if-len-quoted.true h) c.from_str.ensures.ok
+    c.as_bytes-bytes.ensures.value c.long_span.ensures.prefix
+    (c.if-long_span-bytes.true ∙ ap length c.as_bytes-bytes.ensures.value) h) c.from_str.ensures.ok
 
-pub loop-len-init : goal.loop-len-init
-loop-len-init c = record {
-  text = c.utf8.quoted;
-  value = unescapes (string_bytes c.in_ok-value.value) c.utf8.quoted c.as_bytes.ensures.value
-      c.long_span-len.ensures.prefix c.in_ok-value.ensures.bytes;
-}
-
-pub loop-len-preserved : goal.loop-len-preserved
-loop-len-preserved c = record {
-  text = search rules;
-  value = unescapes_on (string_bytes c.push_str.new.self) c.loop-len.invariant.value
-      (IsUtf8-string_bytes c.loop-len.value) (grind arith)
-      (c.without_escape-rest.ensures.value ∙ ap (λ s. unescaped false (chars s)) c.range_from.ensures.value)
-      c.literal_len-len.ensures.literal;
-}
+pub from_utf8_unchecked-requires : goal.from_utf8_unchecked-requires
+from_utf8_unchecked-requires c = value_utf8 c.utf8.quoted (unescapes_all c.truncate.new.self.items c.loop-at.invariant
+    c.loop-at-test.false c.truncate.ensures.items c.as_bytes-bytes.ensures.value)
 
 pub returns : goal.returns
-returns c = unescapes_all (string_bytes c.push_str-2.new.self) c.loop-len.invariant.value
-    (IsUtf8-string_bytes c.loop-len.value) c.loop-len-test.false c.in_ok-push_str-2.ensures.bytes
+returns c = value_chars c.utf8.quoted (ap (λ (v : Vec ℕ Global). v.items) c.from_utf8_unchecked.ensures.value
+    ∙ unescapes_all c.truncate.new.self.items c.loop-at.invariant c.loop-at-test.false c.truncate.ensures.items
+    c.as_bytes-bytes.ensures.value)

@@ -1,25 +1,25 @@
-use Rattle.std.proofs.Common.{arith, sym, ◌∙◌}
-use Rattle.std.proofs.lemmas.Bool.{false≢true}
-use Rattle.data_url.proofs.mime.FirstNames.{found_named, none_between, none_named, one_more}
+use Rattle.std.proofs.Common.{arith, ap, drop, map, sym, take, take_all, ◌==◌, ◌∙◌}
+use Rattle.std.specs.Char.{to_ascii_lowercase}
+use Rattle.std.specs.{Simd.Lanes.{mask_l}, Str.{chars}}
+use Rattle.data_url.specs.{Mime.{has_name}, Steps.Kept.{first_of, pairs_of}}
+use Rattle.data_url.proofs.mime.FirstNames.{first_len, row_further, row_named}
 use Rattle.data_url.proofs.mime.kept.KeptParameters.is_among_first.Goals as goal
 
-pub loop-place-init : goal.loop-place-init
-loop-place-init c = none_between c.requires.indexed (omega arith) c.utf8.name c.requires.token
-    c.fingerprint-fingerprint.ensures (λ k l. absurd (omega arith)) c.next_alike-place.ensures.skips
+pub is_in_row-requires-clause-bits : goal.is_in_row-requires-clause-bits
+is_in_row-requires-clause-bits c =
+    let row = take 16 (drop c.loop-at.at c.args.self.now.fingerprints) in
+    c.alike-bits.ensures ∙ ap (λ v. mask_l (map (λ b. b == c.fingerprint-fingerprint.result) v)) c.row.ensures
+    ∙ ap (λ f. mask_l (map (λ b. b == f) row)) c.fingerprint-fingerprint.ensures
 
-pub returns-then-eq_ignore_ascii_case : goal.returns-then-eq_ignore_ascii_case
-returns-then-eq_ignore_ascii_case c = found_named c.requires.indexed (omega arith) c.utf8.name c.requires.token
-    c.fingerprint-fingerprint.ensures {item = c.index.result.now} c.loop-place-test.true c.index.ensures
-    c.deref.ensures (c.eq_ignore_ascii_case.ensures.test.0 c.if-eq_ignore_ascii_case.true)
+pub returns-then-is_in_row : goal.returns-then-is_in_row
+returns-then-is_in_row c = sym (row_named _ (first_of (pairs_of c.args.self.now)) c.loop-at.at
+    (sym (c.is_in_row.ensures) ∙ c.if-is_in_row.true))
 
-pub loop-place-preserved : goal.loop-place-preserved
-loop-place-preserved c = none_between c.requires.indexed (omega arith) c.utf8.name c.requires.token
-    c.fingerprint-fingerprint.ensures (one_more c.requires.indexed (omega arith) c.utf8.name c.requires.token
-    c.fingerprint-fingerprint.ensures {item = c.index.result.now} c.loop-place-test.true c.index.ensures
-    c.deref.ensures c.loop-place.invariant
-    (λ same. false≢true (sym c.if-eq_ignore_ascii_case.false ∙ c.eq_ignore_ascii_case.ensures.test.1 same)))
-    c.next_alike-place-in-loop-place.ensures.skips
+pub loop-at-preserved : goal.loop-at-preserved
+loop-at-preserved c = row_further _ (first_of (pairs_of c.args.self.now)) c.loop-at.at c.loop-at.invariant
+    (sym (c.is_in_row.ensures) ∙ c.if-is_in_row.false)
 
 pub returns : goal.returns
-returns c = none_named c.requires.indexed (omega arith) c.utf8.name c.requires.token
-    c.fingerprint-fingerprint.ensures c.loop-place.invariant c.loop-place-test.false
+returns c = sym (ap (has_name (map to_ascii_lowercase (chars c.args.name.now))) (sym (take_all c.loop-at.at
+    (first_of (pairs_of c.args.self.now)) (omega (arith, first_len {len = c.min-len.result} c.requires.indexed (omega arith)))))
+    ∙ c.loop-at.invariant)

@@ -1,0 +1,29 @@
+use Rattle.std.proofs.Common.{arith, ap}
+use lib.Count.{count_trailing_zeros}
+use Rattle.data_url.proofs.{classes.Rows.{one_row_more, row_front}, mime.Escapes.{copies_on, plain_front}}
+use Rattle.data_url.specs.declared.classes.TheConstants.{ESCAPED}
+use Rattle.data_url.proofs.mime.values.copy_rows.Goals as goal
+
+pub returns-then-not-is_unmarked : goal.returns-then-not-is_unmarked
+returns-then-not-is_unmarked c =
+    let i = c.loop-copied.invariant in
+    let h = row_front ESCAPED c.args.text.now c.loop-copied.copied i.front (omega (arith, c.loop-copied-test.true))
+    c.row-row.ensures c.is_unmarked.ensures _ c.if-not-is_unmarked.true (ap (count_trailing_zeros 64) c.marks.ensures) in
+    record {
+      within = h.1.within;
+      copied = copies_on c.put.new.bytes _ i (omega arith) c.row-row.ensures c.put.ensures h.0;
+      plain = plain_front c.args.text.now _ h.1.within (λ k. omega (arith, c.type_inv.text k)) h.1.front;
+    }
+
+pub loop-copied-preserved : goal.loop-copied-preserved
+loop-copied-preserved c =
+    let i = c.loop-copied.invariant in
+    record {
+      front = one_row_more ESCAPED c.args.text.now c.loop-copied.copied i.front (omega (arith, c.loop-copied-test.true))
+          c.row-row.ensures c.is_unmarked.ensures c.if-not-is_unmarked.false;
+      value_is = copies_on c.put.new.bytes 16 i (omega arith) c.row-row.ensures c.put.ensures (omega arith);
+    }
+
+pub returns-clause-plain : goal.returns-clause-plain
+returns-clause-plain c = plain_front c.args.text.now _ c.loop-copied.invariant.front.within
+    (λ k. omega (arith, c.type_inv.text k)) c.loop-copied.invariant.front.front
