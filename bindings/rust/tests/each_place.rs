@@ -164,16 +164,50 @@ fn each_byte_at_each_place() {
     assert_each_byte("ABCDEFGHIJKLMNOPQRSTUVWXYZABCDEFGH\r\nIJKLMNOPQRSTUV W X Y Z A B C D E F G H\n    IJ");
 }
 
+/// Asserts what a text decodes to, whole and cut in two at each place. Returns its bytes.
+fn assert_each_cut(text: &[u8]) -> Vec<u8> {
+    let (bytes, message) = assert_base64(text);
+    for cut in 0..=text.len() {
+        let (front, back) = text.split_at(cut);
+        assert_fed(&[front, back], &bytes, &message);
+    }
+    bytes
+}
+
 #[test]
 fn each_cut_in_two() {
     let text = "gtD7fGUOv8fwNfBb0jXxUJR4QQAAabVVloZaXZxmCu1VShIqmArIntn9oX98WHgCtzC1uwB5FXZP\r\n\
         f7stg7NvlE3LaruSrjLnonWKTn9UGKzEesg61SHE/qaQQ0NV3vTH1lS6V6+o9jl8\n\
         zSOwW/r \tXL+iuItEnuj+h\u{c}lrWB8gpj7ktsjs0sW5=              =";
-    let (bytes, message) = assert_base64(text.as_bytes());
-    assert!(text.len() == 200 && bytes.len() == 133 && message.is_empty());
-    for cut in 0..=text.len() {
-        let (front, back) = text.as_bytes().split_at(cut);
-        assert_fed(&[front, back], &bytes, "");
+    assert!(text.len() == 200 && assert_each_cut(text.as_bytes()).len() == 133);
+}
+
+/// Returns random symbols, with white space after each `width` of them, and a longer run of it after half of them.
+fn spaced_symbols(state: &mut u32, count: usize, width: usize) -> String {
+    let mut text = String::new();
+    for place in 0..count {
+        text.push(char::from(ALPHABET[random(state) as usize % 64]));
+        match place {
+            _ if place == count / 2 => text.push_str(&" ".repeat(37)),
+            _ if place % width == width - 1 => text.push('\n'),
+            _ => {}
+        }
+    }
+    text
+}
+
+/// Symbols of rows with white space are packed, up to 256 of them and 15 more, and decoded together. They may end in every row
+/// and at every place of one, with up to three symbols that are left over.
+#[test]
+fn symbols_that_are_packed() {
+    let mut state = 20_261_127;
+    for count in (60..80).chain(250..276) {
+        for width in &[1, 5, 14] {
+            let text = spaced_symbols(&mut state, count, *width);
+            for end in &["", "=", "==", "!", " \n\t ", "Q!QQQQ QQQQ", "=Q"] {
+                assert_each_cut(format!("{}{}", text, end).as_bytes());
+            }
+        }
     }
 }
 

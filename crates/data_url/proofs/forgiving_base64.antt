@@ -5,3 +5,4 @@ pub mod Steps
 pub mod Holding
 pub mod WholeTexts
 pub mod Spaces
+pub mod Packed

@@ -11,7 +11,7 @@ mod alphabet;
 mod blocks;
 mod decode;
 mod held;
-mod spaced;
+mod units;
 mod whole;
 
 pub use decode::Decoder;

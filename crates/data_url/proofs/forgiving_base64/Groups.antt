@@ -66,7 +66,7 @@ spaces_only (c ∷ t) h =
     grind (arith)
 
 -- what a filter keeps passes
-symbols_kept : (t : List ℕ) → list_all is_symbol (filter is_symbol t) ≡ true
+pub symbols_kept : (t : List ℕ) → list_all is_symbol (filter is_symbol t) ≡ true
 symbols_kept [] = refl
 symbols_kept (c ∷ t) = grind (arith, symbols_kept t)
 
@@ -82,7 +82,7 @@ fills_none text zero e f = grind (arith, append-nil)
 fills_none text (suc n) e f = absurd (omega arith)
 
 -- a text fills held to h1, and then another fills h1 to h2
-fills_then : {held h1 h2 : List ℕ} (a b : List ℕ) → Fills held a h1 → Fills h1 b h2 → Fills held (a ++ b) h2
+pub fills_then : {held h1 h2 : List ℕ} (a b : List ℕ) → Fills held a h1 → Fills h1 b h2 → Fills held (a ++ b) h2
 fills_then {held} {h1} {h2} a b f g =
     let x = filter is_symbol a in
     let y = filter is_symbol b in

@@ -5,7 +5,7 @@ ghost use Rattle.std.specs.{Char.{is_ascii_whitespace}, List.{prefix_len}};
 
 use super::alphabet::{decode_row, group_of, is_of_symbols, is_symbol};
 use super::blocks::groups_ahead;
-use super::spaced::without_spaces;
+use super::units::{decode_unit, pack_unit};
 use crate::classes::lanes::{put, row};
 
 /// How many bytes of groups are held before the closure is called with them: those of 64 groups. With one piece, 16
@@ -15,11 +15,11 @@ pub(crate) const FULL: usize = 192;
 /// The bytes of up to 64 groups, and of up to three groups of the row that was added last.
 #[derive(Drop)]
 pub(crate) struct HeldGroups {
-    bytes: [u8; 208],
+    bytes: [u8; 224],
     pub(crate) len: usize,
     ghost within: { len < 204 },
     ghost whole: { len % 3 ≡ 0 },
-    ghost sized: { length bytes ≡ 208 },
+    ghost sized: { length bytes ≡ 224 },
 }
 
 /// Returns how many bytes of white space a text begins with. The most frequent ends of lines come first, and then
@@ -48,7 +48,7 @@ impl HeldGroups {
         ensures len { result.len ≡ 0 }
     {
         HeldGroups {
-            bytes: [0; 208],
+            bytes: [0; 224],
             len: 0,
         }
     }
@@ -94,10 +94,10 @@ impl HeldGroups {
     {
         if text.len() >= 16 {
             let taken = self.fill_rows(text);
-            if taken > 0 {
+            if self.len >= FULL || text.len() - taken < 16 {
                 return taken;
             }
-            return self.fill_spaced(text);
+            return taken + self.fill_spaced(&text[taken..]);
         }
         if text.len() < 4 || !is_symbol(text[0]) || !is_symbol(text[1]) {
             return 0;
@@ -133,40 +133,28 @@ impl HeldGroups {
             } else {
                 let ahead = groups_ahead(row);
                 let spaces = spaces_ahead(&text[at + 4 * ahead..]);
-                let taken = 4 * ahead + spaces;
-                if taken == 0 {
-                    break;
-                }
                 len += 3 * ahead;
-                at += taken;
+                at += 4 * ahead + spaces;
                 full_at += spaces;
-                end = rows_end.min(full_at);
+                end = if spaces > 0 { rows_end.min(full_at) } else { 0 };
             }
         }
         self.len = len;
         at
     }
 
-    /// Adds whole groups that a text begins with, without the white space between their symbols, as long as there is a
-    /// row of sixteen bytes that has white space, and no padding or fault. Returns how many bytes of the text they take.
+    /// Adds whole groups that a text begins with, without the white space between their symbols, until 64 groups are held
+    /// or no row of symbols and white space follows. Returns how many bytes of the text they take.
     #[inline(never)]
     fn fill_spaced(&mut self, text: &[u8]) -> usize
         requires room { self.old.len < 192 }
         ensures within { result ≤ length text.now }
         ensures fills { Fills (held_bytes self.old) (take result text.now) (held_bytes self.new) }
     {
-        let mut rest = text;
-        let mut len = self.len;
-        while rest.len() >= 16 && len < FULL {
-            let (symbols, groups, taken) = without_spaces(row(rest, 0));
-            if taken == 0 {
-                break;
-            }
-            put(&mut self.bytes, len, decode_row(symbols));
-            len += 3 * groups;
-            rest = &rest[taken..];
-        }
-        self.len = len;
-        text.len() - rest.len()
+        let mut symbols = [0; 288];
+        let (have, taken) = pack_unit(text, &mut symbols, (FULL - self.len) / 3 * 4);
+        decode_unit(&symbols, have, &mut self.bytes, self.len);
+        self.len += have / 4 * 3;
+        taken
     }
 }

@@ -1,16 +1,15 @@
-use Rattle.std.proofs.Common.{ap, arith, length}
-use Rattle.data_url.proofs.forgiving_base64.{Groups.{fill_one, fills_none, fills_nothing}, Holding.{held_len}}
+use Rattle.std.proofs.Common.{arith, drop, take, take-add}
+use Rattle.std.proofs.lemmas.List.{take_rest}
+use Rattle.data_url.proofs.forgiving_base64.Groups.{fill_one, fills_nothing, fills_then}
 use Rattle.data_url.proofs.forgiving_base64.held.HeldGroups.fill.Goals as goal
-
-pub fill_spaced-requires : goal.fill_spaced-requires
-fill_spaced-requires c =
-    let same = fills_none c.args.text.now _ (omega arith) c.fill_rows-taken.ensures.fills in
-    record { room = omega (arith, ap length same, held_len c.fill_rows-taken.new.self, held_len c.args.self.now) }
 
 pub returns-then-text-ge16-clause-fills : goal.returns-then-text-ge16-clause-fills
 returns-then-text-ge16-clause-fills c =
-    rw (fills_none c.args.text.now c.fill_rows-taken.result (omega arith) c.fill_rows-taken.ensures.fills) at
-    c.fill_spaced.ensures.fills
+    let text = c.args.text.now in
+    let n = c.fill_rows-taken.result in
+    let m = c.fill_spaced.result in
+    rw (take-add n m text) (fills_then (take n text) (take m (drop n text)) c.fill_rows-taken.ensures.fills
+    (rw (take_rest text n) at c.fill_spaced.ensures.fills))
 
 pub returns-then-text-lt4-clause-fills : goal.returns-then-text-lt4-clause-fills
 returns-then-text-lt4-clause-fills c = fills_nothing _

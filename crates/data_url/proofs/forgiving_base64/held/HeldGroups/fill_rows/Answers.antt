@@ -1,8 +1,8 @@
-use Rattle.std.proofs.Common.{◌*◌, ◌+◌, ◌-◌, ◌∙◌, ◌≡◌, ap, arith, drop, drop-drop, length, length-drop, refl, sym, take}
+use Rattle.std.proofs.Common.{◌*◌, ◌+◌, ◌-◌, ◌∙◌, ◌≡◌, ap, arith, drop, drop-drop, length, length-drop, refl, sym}
 use Rattle.std.proofs.Common.{take_all}
 use Rattle.std.{proofs.lemmas.List.{take_rest}, specs.{Char.{is_ascii_whitespace}, List.{list_all, prefix_len}}}
 use Rattle.data_url.specs.Base64.{is_symbol}
-use Rattle.data_url.proofs.forgiving_base64.Groups.{leaves_all, leaves_read, put_keeps, row_leaves_at, row_long, spaces_front}
+use Rattle.data_url.proofs.forgiving_base64.Groups.{leaves_all, leaves_read, row_leaves_at, row_long, spaces_front}
 use Rattle.data_url.proofs.forgiving_base64.held.HeldGroups.fill_rows.Goals as goal
 
 pub loop-at-init : goal.loop-at-init
@@ -35,8 +35,8 @@ loop-at-preserved-then-is_clean c =
           (ap (list_all is_symbol) (take_all 16 row (omega (arith, long))) ∙ all) refl;
     }
 
-pub loop-at-preserved : goal.loop-at-preserved
-loop-at-preserved c =
+pub loop-at-preserved-then-spaces-gt0 : goal.loop-at-preserved-then-spaces-gt0
+loop-at-preserved-then-spaces-gt0 c =
     let l = c.loop-at in
     let text = c.args.text.now in
     let m = c.groups_ahead-ahead.result in
@@ -46,7 +46,7 @@ loop-at-preserved c =
     let after = drop (4 * m) (drop l.at text) in
     let front : k ≡ prefix_len is_ascii_whitespace after = spaces.spaces
     ∙ ap (prefix_len is_ascii_whitespace) (take_rest text (l.at + 4 * m) ∙ sym (drop-drop (4 * m) l.at text)) in
-    let ends = c.min-end-else-is_clean.ensures in
+    let ends = c.min-end-then-spaces-gt0.ensures in
     record {
       within = omega (
         arith,
@@ -65,16 +65,38 @@ loop-at-preserved c =
           (omega (arith, ahead.few)) ahead.symbols (rw front (spaces_front after));
     }
 
+pub loop-at-preserved : goal.loop-at-preserved
+loop-at-preserved c =
+    let l = c.loop-at in
+    let text = c.args.text.now in
+    let m = c.groups_ahead-ahead.result in
+    let ahead = c.groups_ahead-ahead.ensures in
+    let k = c.spaces_ahead-spaces.result in
+    let spaces = c.spaces_ahead-spaces.ensures in
+    let after = drop (4 * m) (drop l.at text) in
+    let front : k ≡ prefix_len is_ascii_whitespace after = spaces.spaces
+    ∙ ap (prefix_len is_ascii_whitespace) (take_rest text (l.at + 4 * m) ∙ sym (drop-drop (4 * m) l.at text)) in
+    record {
+      within = omega (
+        arith,
+        spaces.within,
+        ap length (take_rest text (l.at + 4 * m)),
+        length-drop (l.at + 4 * m) text,
+        ahead.few,
+        l.invariant.ends.0,
+      );
+      few = omega arith;
+      whole = omega (arith, l.invariant.whole);
+      full = omega (arith, l.invariant.full);
+      ends = (omega arith, omega arith);
+      leaves = row_leaves_at text l.self.bytes _ _ _ l.at l.len m k l.invariant.leaves (omega (arith, l.self.sized))
+          c.put.ensures c.decode_row.ensures.bytes (omega (arith, l.invariant.ends.0)) c.row-row.ensures
+          (omega (arith, ahead.few)) ahead.symbols (rw front (spaces_front after));
+    }
+
 pub returns-clause-fills : goal.returns-clause-fills
 returns-clause-fills c =
     let l = c.loop-at in
     let text = c.args.text.now in
-    let old = l.self.bytes in
-    let same : take l.len c.loop-at-test.self.1.0 ≡ take l.len old = elim c.loop-at-test.branch [
-      | goal.else-loop-at-test w ↦ grind arith
-      | goal.then-loop-at-test+else-is_clean+then-taken-eq0 w ↦
-          rw w.self-is (put_keeps old w.put.new.bytes w.decode_row.result l.len
-          (omega (arith, l.self.sized)) w.put.ensures)
-    ] in
     let read : length text - length (drop l.at text) ≡ l.at = omega (arith, length-drop l.at text, l.invariant.within) in
-    rw (same, sym read) (leaves_read l.invariant.leaves).1
+    rw (sym read) (leaves_read l.invariant.leaves).1

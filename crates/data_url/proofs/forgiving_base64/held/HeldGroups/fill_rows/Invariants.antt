@@ -1,4 +1,4 @@
-use Rattle.std.proofs.Common.{◌*◌, ◌+◌, ◌-◌, ◌≡◌, ◌≤◌, ◌%◌, ◌<◌, drop, length, take}
+use Rattle.std.proofs.Common.{◌*◌, ◌+◌, ◌-◌, ◌≡◌, ◌≤◌, ◌%◌, ◌<◌, drop, length, min, take}
 use Rattle.data_url.specs.Steps.Groups.{held_bytes}
 use Rattle.data_url.proofs.forgiving_base64.Groups.{Leaves}
 use Rattle.data_url.proofs.forgiving_base64.held.HeldGroups.fill_rows.Given as goal
@@ -15,4 +15,4 @@ invariant-loop-at l = record {
 }
 
 abbrev pub decreases-loop-at : goal.decreases-loop-at
-decreases-loop-at l = length l.text - l.at
+decreases-loop-at l = 2 * (length l.text - l.at) + min 1 l.end
