@@ -32,7 +32,10 @@ fn target() -> &'static str {
 
 /// Proves and builds the library for a target.
 fn build(bindings: &Path, target: &str) {
-    let kit = Command::new("rt").arg("version").stdout(Stdio::null()).status();
+    let kit = Command::new("rt")
+        .arg("version")
+        .stdout(Stdio::null())
+        .status();
     if !kit.map_or(false, |it| it.success()) {
         fail(&format!(
             "there is no libdata_url.a for {}; to build it, install the Rattle kit (`rt`) and run bindings/build {}",

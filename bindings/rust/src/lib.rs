@@ -207,7 +207,10 @@ impl<'a> DataUrl<'a> {
         // Stretches without a `#` are skipped, many bytes at a time.
         let is_there = |part: &[u8]| part.iter().fold(false, |seen, byte| seen | (*byte == b'#'));
         let part = tail.as_bytes().chunks(PART).position(is_there)?;
-        let place = part * PART + tail.as_bytes()[part * PART..].iter().position(|byte| *byte == b'#')?;
+        let place = part * PART
+            + tail.as_bytes()[part * PART..]
+                .iter()
+                .position(|byte| *byte == b'#')?;
         Some(FragmentIdentifier(&tail[place + 1..]))
     }
 }

@@ -213,7 +213,12 @@ pub(crate) fn fragment<T>(url: &str, read: impl Fn(&str) -> T) -> Result<T, u32>
 pub(crate) fn body(url: &str, room: usize) -> (u32, Vec<u8>) {
     let mut bytes = Vec::with_capacity(room);
     let answer = unsafe {
-        dataurl_body_utf8(url.as_ptr(), url.len(), bytes.as_mut_ptr(), bytes.capacity())
+        dataurl_body_utf8(
+            url.as_ptr(),
+            url.len(),
+            bytes.as_mut_ptr(),
+            bytes.capacity(),
+        )
     };
     assert!(answer.len <= bytes.capacity());
     unsafe { bytes.set_len(answer.len) };
@@ -237,7 +242,13 @@ impl Body {
         bytes.reserve(LEAST);
         let (len, room) = (bytes.len(), bytes.capacity() - bytes.len());
         let answer = unsafe {
-            dataurl_body_next_utf8(self, tail.as_ptr(), tail.len(), bytes.as_mut_ptr().add(len), room)
+            dataurl_body_next_utf8(
+                self,
+                tail.as_ptr(),
+                tail.len(),
+                bytes.as_mut_ptr().add(len),
+                room,
+            )
         };
         assert!(answer.len <= room);
         unsafe { bytes.set_len(len + answer.len) };
@@ -274,9 +285,8 @@ impl Base64 {
         input: &[u8],
         room: &'r mut Room<N>,
     ) -> (u32, &'r [u8], usize) {
-        let fed = unsafe {
-            dataurl_base64_feed(self, input.as_ptr(), input.len(), room.as_mut_ptr(), N)
-        };
+        let fed =
+            unsafe { dataurl_base64_feed(self, input.as_ptr(), input.len(), room.as_mut_ptr(), N) };
         (fed.status, room.written(fed.len), fed.read)
     }
 

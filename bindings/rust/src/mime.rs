@@ -65,7 +65,11 @@ impl Mime {
 
 /// The text before an ASCII character and from it on.
 fn split_at(text: &str, c: u8) -> (&str, &str) {
-    text.split_at(text.bytes().position(|byte| byte == c).unwrap_or(text.len()))
+    text.split_at(
+        text.bytes()
+            .position(|byte| byte == c)
+            .unwrap_or(text.len()),
+    )
 }
 
 /// The parameters of a printed record, each after a `;`.

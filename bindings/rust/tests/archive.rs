@@ -13,5 +13,9 @@ fn the_library_was_built_from_these_sources() {
     };
     let script = concat!(env!("CARGO_MANIFEST_DIR"), "/../archive");
     let found = Command::new(script).arg(target).output().expect("bash");
-    assert!(found.status.success(), "{}", String::from_utf8_lossy(&found.stderr));
+    assert!(
+        found.status.success(),
+        "{}",
+        String::from_utf8_lossy(&found.stderr)
+    );
 }

@@ -17,7 +17,10 @@ fn image(text: &str) -> Result<Option<Vec<u8>>, Box<dyn Error>> {
 
 #[test]
 fn fields_of_a_type() {
-    assert_eq!(image("data:image/png;base64,QUJD").unwrap(), Some(b"ABC".to_vec()));
+    assert_eq!(
+        image("data:image/png;base64,QUJD").unwrap(),
+        Some(b"ABC".to_vec())
+    );
     assert_eq!(image("data:text/png;base64,QUJD").unwrap(), None);
     assert!(image("data:").is_err() && image("data:image/png;base64,Q").is_err());
 }
@@ -94,8 +97,14 @@ fn decoded(parts: &[&str]) -> Result<Vec<u8>, DecodeError<&'static str>> {
 #[test]
 fn decoders() {
     assert_eq!(decoded(&["Q", "UJ", "DQUI", "="]).unwrap(), b"ABCAB");
-    assert!(matches!(decoded(&["QUJD", "QUJDQQ"]), Err(DecodeError::WriteError("full"))));
-    assert!(matches!(decoded(&["QUJD", "!"]), Err(DecodeError::InvalidBase64(_))));
+    assert!(matches!(
+        decoded(&["QUJD", "QUJDQQ"]),
+        Err(DecodeError::WriteError("full"))
+    ));
+    assert!(matches!(
+        decoded(&["QUJD", "!"]),
+        Err(DecodeError::InvalidBase64(_))
+    ));
 }
 
 fn is_error<E: Error + Send + Sync + 'static>() {}

@@ -42,7 +42,21 @@ fn assert_body(text: &str) {
 
 /// Parts with bytes that the body does not hold as they are, and two without.
 const SPECIALS: [&str; 15] = [
-    "\t", "\n", "\r", "#", "%", "%41", "%4\t1", "%\n\n4\r1", "%4", "%%41", "%41%42%43%44", "\u{e9}", "%2", "%\t", "a",
+    "\t",
+    "\n",
+    "\r",
+    "#",
+    "%",
+    "%41",
+    "%4\t1",
+    "%\n\n4\r1",
+    "%4",
+    "%%41",
+    "%41%42%43%44",
+    "\u{e9}",
+    "%2",
+    "%\t",
+    "a",
 ];
 
 #[test]
@@ -99,7 +113,12 @@ fn read(text: &[u8]) -> (Vec<u8>, String) {
             Some(value) if padding == 0 => values.push(value),
             Some(_) => return (values, "alphabet symbol present after padding".to_owned()),
             None if *byte == b'=' => padding += 1,
-            None => return (values, format!("symbol with codepoint {} not expected", byte)),
+            None => {
+                return (
+                    values,
+                    format!("symbol with codepoint {} not expected", byte),
+                )
+            }
         }
     }
     let message = match (values.len() % 4, padding) {
@@ -112,10 +131,18 @@ fn read(text: &[u8]) -> (Vec<u8>, String) {
 
 /// Returns the bytes of symbols, by their six bits. Those of symbols that are left over are added if the text is valid.
 fn bytes_of(values: &[u8], is_valid: bool) -> Vec<u8> {
-    let whole = if is_valid { values.len() } else { values.len() / 4 * 4 };
-    let bits = values[..whole].iter().flat_map(|value| (0..6).rev().map(move |at| value >> at & 1));
+    let whole = if is_valid {
+        values.len()
+    } else {
+        values.len() / 4 * 4
+    };
+    let bits = values[..whole]
+        .iter()
+        .flat_map(|value| (0..6).rev().map(move |at| value >> at & 1));
     let bits: Vec<u8> = bits.collect();
-    bits.chunks_exact(8).map(|byte| byte.iter().fold(0, |all, bit| all * 2 + bit)).collect()
+    bits.chunks_exact(8)
+        .map(|byte| byte.iter().fold(0, |all, bit| all * 2 + bit))
+        .collect()
 }
 
 /// Asserts what a text that is fed in these parts decodes to, and its message.
@@ -132,7 +159,13 @@ fn assert_fed(parts: &[&[u8]], bytes: &[u8], message: &str) {
         Err(DecodeError::InvalidBase64(fault)) => fault.to_string(),
         Err(DecodeError::WriteError(never)) => match never {},
     };
-    assert!(fault == message && found == bytes, "{:?}: {} {:?}", parts, fault, found);
+    assert!(
+        fault == message && found == bytes,
+        "{:?}: {} {:?}",
+        parts,
+        fault,
+        found
+    );
 }
 
 /// Asserts what a whole text decodes to, and its message, and returns both.
@@ -161,7 +194,9 @@ fn assert_each_byte(text: &str) {
 #[test]
 fn each_byte_at_each_place() {
     assert_each_byte(&"ABCDEFGHIJKLMNOPQRSTUVWXYZ".repeat(5));
-    assert_each_byte("ABCDEFGHIJKLMNOPQRSTUVWXYZABCDEFGH\r\nIJKLMNOPQRSTUV W X Y Z A B C D E F G H\n    IJ");
+    assert_each_byte(
+        "ABCDEFGHIJKLMNOPQRSTUVWXYZABCDEFGH\r\nIJKLMNOPQRSTUV W X Y Z A B C D E F G H\n    IJ",
+    );
 }
 
 /// Asserts what a text decodes to, whole and cut in two at each place. Returns its bytes.
@@ -217,11 +252,18 @@ fn assert_base64_url(text: &str) {
     let bytes = bytes_of(&values, message.is_empty());
     let whole = format!("data:;base64,{}", text);
     let url = DataUrl::process(&whole).unwrap();
-    let fragment = text.find('#').map(|at| text[at + 1..].replace(&['\t', '\n'][..], ""));
+    let fragment = text
+        .find('#')
+        .map(|at| text[at + 1..].replace(&['\t', '\n'][..], ""));
     match url.decode_to_vec() {
         Ok((found, rest)) => {
             assert!(message.is_empty() && found == bytes, "{:?}", text);
-            assert_eq!(rest.map(|it| it.to_percent_encoded()), fragment, "{:?}", text);
+            assert_eq!(
+                rest.map(|it| it.to_percent_encoded()),
+                fragment,
+                "{:?}",
+                text
+            );
         }
         Err(fault) => assert_eq!(fault.to_string(), message, "{:?}", text),
     }
@@ -230,14 +272,23 @@ fn assert_base64_url(text: &str) {
         pieces.extend_from_slice(piece);
         Ok(())
     });
-    assert!(ended.is_ok() == message.is_empty() && pieces == bytes, "{:?}", text);
+    assert!(
+        ended.is_ok() == message.is_empty() && pieces == bytes,
+        "{:?}",
+        text
+    );
 }
 
 /// Returns lines of random symbols, each followed by a newline.
 fn lines(width: usize, count: usize) -> String {
     let mut state = 20_261_122;
     let mut symbol = || char::from(ALPHABET[random(&mut state) as usize % 64]);
-    let mut line = || (0..width).map(|_| symbol()).chain(Some('\n')).collect::<String>();
+    let mut line = || {
+        (0..width)
+            .map(|_| symbol())
+            .chain(Some('\n'))
+            .collect::<String>()
+    };
     (0..count).map(|_| line()).collect()
 }
 

@@ -8,9 +8,16 @@ use data_url::{DataUrl, DataUrlError};
 fn refusals() {
     for text in ["", "da ta:,x", "date:,x"] {
         let refused = DataUrl::process(text);
-        assert!(matches!(refused, Err(DataUrlError::NotADataUrl)), "{:?}", text);
+        assert!(
+            matches!(refused, Err(DataUrlError::NotADataUrl)),
+            "{:?}",
+            text
+        );
     }
-    assert!(matches!(DataUrl::process("data:#,x"), Err(DataUrlError::NoComma)));
+    assert!(matches!(
+        DataUrl::process("data:#,x"),
+        Err(DataUrlError::NoComma)
+    ));
 }
 
 #[test]
@@ -19,7 +26,10 @@ fn mime_types() {
         .parse()
         .unwrap();
     assert!(mime.matches("text", "html") && !mime.matches("text", "plain"));
-    assert_eq!((mime.type_.as_str(), mime.subtype.as_str()), ("text", "html"));
+    assert_eq!(
+        (mime.type_.as_str(), mime.subtype.as_str()),
+        ("text", "html")
+    );
     assert_eq!(mime.get_parameter("a"), Some("b;\"c"));
     assert_eq!(mime.get_parameter("d"), None);
     assert_eq!(mime.get_parameter("e"), Some(""));
@@ -41,7 +51,11 @@ fn debug_texts_are_short() {
     let refusal = forgiving_base64::decode_to_vec(text.as_bytes()).unwrap_err();
     assert!(format!("{:?}", refusal).len() < 80);
     let url = format!("data:;base64,{}", text);
-    let refusal = DataUrl::process(&url).unwrap().decode_to_vec().err().unwrap();
+    let refusal = DataUrl::process(&url)
+        .unwrap()
+        .decode_to_vec()
+        .err()
+        .unwrap();
     assert!(format!("{:?}", refusal).len() < 80);
 }
 
@@ -133,7 +147,9 @@ fn closures_that_refuse_each_call() {
     for text in bodies() {
         let url = DataUrl::process(&text).unwrap();
         let (all, ended) = pieces(&url, 0);
-        assert!(all.iter().all(|piece| !piece.is_empty() && piece.len() <= 8192));
+        assert!(all
+            .iter()
+            .all(|piece| !piece.is_empty() && piece.len() <= 8192));
         match url.decode_to_vec() {
             Ok((body, _)) => assert!(ended.is_ok() && all.concat() == body),
             Err(refusal) => assert_eq!(ended, Err(format!("base64 not valid: {}", refusal))),
