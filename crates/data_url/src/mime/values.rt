@@ -1,7 +1,7 @@
 //! Values of parameters, as slices of a text and as texts of their own.
 #![tactic(auto, using(crate::proofs::mime::FirstNames::lower_chars, crate::proofs::mime::Parsing::quotable_by))]
 
-ghost use Rattle.std.specs.Prelude.{◌≡◌, ◌<◌, ◌≤◌, ◌+◌, ◌++◌, IfOk, IsTrue, drop, false, length, map, take, true};
+ghost use Rattle.std.specs.Prelude.{◌≡◌, ◌<◌, ◌≤◌, ◌+◌, ◌-◌, ◌++◌, IfOk, IsTrue, drop, false, length, map, take, true};
 ghost use Rattle.std.specs.Char.{to_ascii_lowercase};
 ghost use Rattle.std.specs.Option.{option_map};
 ghost use Rattle.std.specs.Str.{chars};
@@ -49,27 +49,34 @@ fn unescaped(alloc: Global, quoted: &str) -> Result<String, AllocError>
         return String::from_str(alloc, quoted);
     }
     let mut value = vec![in alloc; 0; bytes.len()]?;
-    let mut at = 0;
-    let mut len = 0;
+    let mut at = copy_rows(bytes, &mut value, 0);
+    let mut len = at;
     while at < bytes.len() {
-        at += escape_len(bytes, at);
-        value[len] = bytes[at];
-        let copied = 1 + copy_rows(&bytes[at + 1..], &mut value, len + 1);
-        at += copied;
+        let (taken, copied) = copy_next(bytes, at, &mut value, len);
+        at += taken;
         len += copied;
     }
     value.truncate(len);
     Ok(unsafe { String::from_utf8_unchecked(value) })
 }
 
-/// Returns 1 if a `\` is at a place, and a byte comes after it. Returns 0 otherwise.
+/// Copies the byte at a place or, if it is a `\` before another one, that one and the rows after it. Returns how many bytes of the
+/// text this takes, and how many are copied. These are two ways, so that the processor need not wait for the byte before it goes on.
 #[inline(always)]
-fn escape_len(bytes: &[u8], at: usize) -> usize
-    requires { at < length bytes.now }
-    ensures within { at + result < length bytes.now }
-    ensures value { unescaped true (drop (at + result) bytes.now) ≡ unescaped false (drop at bytes.now) }
+fn copy_next(bytes: &[u8], at: usize, value: &mut [u8], len: usize) -> (usize, usize)
+    requires within { at < length bytes.now }
+    requires room { len + (length bytes.now - at) ≤ length value.old }
+    ensures sizes { (0 < result.0) × (result.1 ≤ result.0) × (at + result.0 ≤ length bytes.now) }
+    ensures value { take (len + result.1) value.new ++ unescaped false (drop (at + result.0) bytes.now)
+        ≡ take len value.old ++ unescaped false (drop at bytes.now) }
 {
-    usize::from(bytes[at] == b'\\' && at + 1 < bytes.len())
+    if bytes[at] != b'\\' || at + 1 == bytes.len() {
+        value[len] = bytes[at];
+        return (1, 1);
+    }
+    value[len] = bytes[at + 1];
+    let copied = 1 + copy_rows(&bytes[at + 2..], value, len + 1);
+    (1 + copied, copied)
 }
 
 /// Copies the bytes before the first `"` or `\` of the whole rows of a text, or all of these rows if there is none. Returns how
