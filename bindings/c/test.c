@@ -303,7 +303,7 @@ static void base64_part_in(size_t room) {
 }
 
 static void base64_end_in(size_t room) {
-    uint8_t *out = exact_room(room), none[4];
+    uint8_t *out = exact_room(room), none[8];
     struct data_url_base64_state state = DATA_URL_BASE64_STATE;
     struct data_url_fed fed = data_url_base64_feed(&state, "QU", 2, none, sizeof none);
     struct data_url_fed more = data_url_base64_feed(&state, "I", 1, none, sizeof none);
