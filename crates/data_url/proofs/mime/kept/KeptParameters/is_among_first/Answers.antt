@@ -1,4 +1,4 @@
-use Rattle.std.proofs.Common.{arith, ap, drop, map, sym, take, take_all, ◌==◌, ◌∙◌}
+use Rattle.std.proofs.Common.{arith, ap, drop, map, refl, sym, take, take_all, ◌==◌, ◌∙◌}
 use Rattle.std.specs.Char.{to_ascii_lowercase}
 use Rattle.std.specs.{Simd.Lanes.{mask_l}, Str.{chars}}
 use Rattle.data_url.specs.{Mime.{has_name}, Steps.Kept.{first_of, pairs_of}}
@@ -21,5 +21,5 @@ loop-at-preserved c = row_further _ (first_of (pairs_of c.args.self.now)) c.loop
 
 pub returns : goal.returns
 returns c = sym (ap (has_name (map to_ascii_lowercase (chars c.args.name.now))) (sym (take_all c.loop-at.at
-    (first_of (pairs_of c.args.self.now)) (omega (arith, first_len {len = c.min-len.result} c.requires.indexed (omega arith)))))
+    (first_of (pairs_of c.args.self.now)) (omega (arith, first_len c.requires.indexed refl))))
     ∙ c.loop-at.invariant)
