@@ -38,7 +38,7 @@ fn assert_base64(rt: &impl Abort, alloc: Global, count: usize) -> Result<(), Fai
     Ok(())
 }
 
-/// Asserts a MIME type with a value of `count` letters, and one whose type has so many; both printed and cloned.
+/// Asserts a MIME type with a value of `count` letters, and one with a type of `count` letters. Both are printed and cloned.
 fn assert_mime(rt: &impl Abort, alloc: Global, count: usize) -> Result<(), Fail> {
     let letters = "d".repeat(alloc, count)?;
     let text = format!(in alloc; "a/b;c={letters}")?;
