@@ -6,8 +6,8 @@
 //!                           nanoseconds of a call of each
 //!
 //! A row is as many texts of its kind, each from another seed, as have some 300 KB, and at most 150. In a round all are passed to
-//! the one library and then to the other. So no text comes twice in a round, and the processor does not learn its branches. What
-//! is written are medians over the rounds, so a busy machine slows all of a round alike.
+//! the one library and then to the other. So no text comes twice in a round, and the processor learns less of its branches than of
+//! one text. What is written are medians over the rounds, so a busy machine slows all of a round alike.
 
 mod rows;
 mod texts;

@@ -21,5 +21,5 @@ static uint32_t decode(FILE *from, FILE *to) {
 
 int main(void) {
     uint32_t status = decode(stdin, stdout);
-    return status == DATA_URL_DONE && fflush(stdout) == 0 ? 0 : 1;
+    return status == DATA_URL_DONE && !ferror(stdin) && fflush(stdout) == 0 && !ferror(stdout) ? 0 : 1;
 }

@@ -35,6 +35,7 @@
  *
  *     #include "data_url.h"
  *     #include <stdio.h>
+ *     #include <stdlib.h>
  *
  *     static uint32_t write_body(const char *url, size_t len, FILE *file) {
  *         static char room[65536];
@@ -46,15 +47,23 @@
  *             part = data_url_body_next(&state, url + opened.tail, opened.tail_len, room, sizeof room);
  *             if (part.status == DATA_URL_OUTPUT_TOO_SMALL) return part.status;
  *             fwrite(room, 1, part.len, file);
- *         } while (part.status == DATA_URL_MORE);
+ *         } while (part.status == DATA_URL_MORE && !ferror(file));
  *         return part.status;
  *     }
  *
  *     int main(void) {
- *         static char url[1 << 20];
- *         size_t len = fread(url, 1, sizeof url, stdin);
+ *         size_t len = 0, room = 1 << 16, got;
+ *         char *url = (char *)malloc(room);
+ *         while (url && (got = fread(url + len, 1, room - len, stdin)) > 0) {
+ *             if ((len += got) < room) continue;
+ *             char *more = (char *)realloc(url, room *= 2);
+ *             if (!more) free(url);
+ *             url = more;
+ *         }
+ *         if (!url || ferror(stdin)) return 3;
  *         uint32_t status = write_body(url, len, stdout);
- *         return status == DATA_URL_DONE && fflush(stdout) == 0 ? 0 : 1;
+ *         free(url);
+ *         return status == DATA_URL_DONE && fflush(stdout) == 0 && !ferror(stdout) ? 0 : 1;
  *     }
  *
  * and this one the bytes of the base64 on standard input:
@@ -82,7 +91,7 @@
  *
  *     int main(void) {
  *         uint32_t status = decode(stdin, stdout);
- *         return status == DATA_URL_DONE && fflush(stdout) == 0 ? 0 : 1;
+ *         return status == DATA_URL_DONE && !ferror(stdin) && fflush(stdout) == 0 && !ferror(stdout) ? 0 : 1;
  *     }
  *
  * TEXTS. A text is `len` bytes at a pointer. It need not end with a NUL, and may contain one. Any bytes are allowed. The

@@ -1,7 +1,8 @@
 #!/usr/bin/env python3
 """Writes each program in C that the header and the documents show to a file of its own: programs.py FOLDER
 
-The files are NUMBER.c, and beside each NUMBER.in, its input, and NUMBER.out, what it has to write.
+The files are NUMBER.c, and beside each NUMBER.in, its input, and NUMBER.out, what it has to write. NUMBER.long is an input of some
+megabytes, and NUMBER.long_out what it has to write for that.
 """
 import pathlib
 import re
@@ -9,6 +10,7 @@ import sys
 
 HERE = pathlib.Path(__file__).resolve().parent
 URL = "data:text/plain;base64,SGVsbG8h#part"
+LONG = 400_000
 
 
 def shown():
@@ -21,20 +23,22 @@ def shown():
     return [it.strip("\n") + "\n" for it in [*indented.split("\f"), *fenced] if "int main(" in it]
 
 
-def input_and_output(program):
-    """Returns the input for a program, and what it has to write."""
+def inputs_and_outputs(program):
+    """Returns an input for a program and what it has to write, and the same for a long one."""
     if "data_url_base64_feed" in program:
-        return "SGVs\r\nbG8h", "Hello!"
-    return (URL, "Hello!") if "data_url_body_next" in program else ("", "Hello!, 6 bytes\n")
+        return "SGVs\r\nbG8h", "Hello!", "SGVs\r\nbG8h" * LONG, "Hello!" * LONG
+    if "data_url_body_next" in program:
+        return URL, "Hello!", "data:," + "Hello%21" * LONG, "Hello!" * LONG
+    return "", "Hello!, 6 bytes\n", "", ""
 
 
 def main(folder):
     programs = shown()
     assert len(programs) == 6, f"{len(programs)} programs are shown"
     for number, program in enumerate(programs):
-        texts = (program, *input_and_output(program))
-        for ending, text in zip(("c", "in", "out"), texts):
-            pathlib.Path(folder, f"{number}.{ending}").write_text(text)
+        texts = (program, *inputs_and_outputs(program))
+        for ending, text in zip(("c", "in", "out", "long", "long_out"), texts):
+            pathlib.Path(folder, f"{number}.{ending}").write_bytes(text.encode())
 
 
 main(sys.argv[1])

@@ -79,5 +79,6 @@ fn main() {
     }
     println!("cargo:rerun-if-changed={}", archive.display());
     println!("cargo:rustc-link-search=native={}", folder.display());
+    println!("cargo:rustc-env=DATA_URL_FOLDER={}", folder.display());
     println!("cargo:rustc-link-lib=static=data_url");
 }

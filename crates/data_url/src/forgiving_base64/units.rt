@@ -52,8 +52,8 @@ fn before_partial(text: &[u8], have: usize, at: usize) -> (usize, usize)
     (have, at)
 }
 
-/// Packs the symbols of whole groups that a text begins with, without the white space between them: enough of them, and
-/// up to 15 more. Returns how many symbols these are, and how many bytes of the text they take.
+/// Packs the symbols of whole groups that a text begins with, without the white space between them, until there are enough: at most
+/// 15 more. Returns how many symbols these are, and how many bytes of the text they take.
 #[inline(always)]
 pub(crate) fn pack_unit(text: &[u8], symbols: &mut [u8], enough: usize) -> (usize, usize)
     requires { enough + 32 ≤ length symbols.old }
