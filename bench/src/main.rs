@@ -12,17 +12,17 @@
 mod rows;
 mod texts;
 
-/// The calls of the library as it is.
+/// The calls of the library as it is. `bench/calls` gave its symbols a prefix.
 mod ours {
     macro_rules! symbol {
         ($export:ident) => {
-            stringify!($export)
+            concat!("ours_", stringify!($export))
         };
     }
     include!("ours.rs");
 }
 
-/// The calls of the library of another commit, whose symbols `bench/calls` gave a prefix.
+/// The calls of the library of another commit, whose symbols have another prefix.
 #[cfg(feature = "against")]
 mod theirs {
     macro_rules! symbol {
