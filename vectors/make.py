@@ -196,8 +196,14 @@ def answer(kind, text):
 
 
 def main():
-    is_check = sys.argv[1:] == ["--check"]
-    count, wrong = 0, 0
+    if sys.argv[1:] not in ([], ["--check"]):
+        sys.exit(__doc__)
+    is_check = bool(sys.argv[1:])
+    made = {HERE / kind / (name + ".json") for kind, subjects in SUBJECTS.items() for name in subjects}
+    others = set(HERE.glob("*/*.json")) - made
+    for path in others:
+        print(f"{path.relative_to(HERE)} is of no subject")
+    count, wrong = 0, len(others)
     for kind, subjects in SUBJECTS.items():
         seen = set()
         for name, texts in subjects.items():

@@ -12,7 +12,10 @@ fn the_library_was_built_from_these_sources() {
     if !bindings.join("../crates/data_url").exists() {
         return;
     }
-    let hash = Command::new(bindings.join("sources")).output().expect("bash").stdout;
+    let hash = Command::new(bindings.join("sources"))
+        .output()
+        .expect("bash")
+        .stdout;
     let built = std::fs::read(Path::new(FOLDER).join("sources")).unwrap_or_default();
     assert!(
         !hash.is_empty() && hash == built,

@@ -303,12 +303,12 @@ fn assert_lines_with_parts(text: &str, place: usize) {
     }
 }
 
-/// If the first line has fewer than 32 symbols, the newlines are taken out before the decoder is fed.
+/// If the first line has fewer than 28 symbols, the newlines are taken out before the decoder is fed.
 #[test]
 fn lines_of_base64() {
-    for width in [64, 76] {
-        let text = lines(width, 9);
-        (32..=text.len()).for_each(|place| assert_lines_with_parts(&text, place));
+    for width in &[27, 28, 29, 31, 61, 64, 76, 77] {
+        let text = lines(*width, 9);
+        (27..=text.len()).for_each(|place| assert_lines_with_parts(&text, place));
     }
 }
 
