@@ -303,7 +303,7 @@ fn assert_lines_with_parts(text: &str, place: usize) {
     }
 }
 
-/// If the first line has fewer than 28 symbols, the newlines are taken out before the decoder is fed.
+/// The newlines stay in what the decoder is fed, up to the first escape.
 #[test]
 fn lines_of_base64() {
     for width in &[27, 28, 29, 31, 61, 64, 76, 77] {
@@ -312,9 +312,89 @@ fn lines_of_base64() {
     }
 }
 
-/// The decoder is fed the lines after the first one in stretches of at least 4,096 bytes.
+/// The decoder is fed lines in stretches of some 4,000 bytes.
 #[test]
 fn long_lines_of_base64() {
     let text = lines(76, 60);
     (4_096..4_240).for_each(|place| assert_lines_with_parts(&text, place));
+}
+
+/// How many symbols a decoder reads in one step, with or without white space in one place.
+const ROW: usize = 16;
+
+/// Each kind of gap between two symbols.
+const GAPS: [&str; 7] = ["\n", "\r\n", "\n ", "\n\t", "   ", "\u{c}", "\r"];
+
+/// Calls a closure with each place from the first row of symbols to the end of the third, for each kind of gap.
+fn at_each_gap(mut assert: impl FnMut(usize, &str)) {
+    for place in 0..=3 * ROW {
+        GAPS.iter().for_each(|gap| assert(place, gap));
+    }
+}
+
+/// Up to twenty symbols may follow the gap, or the rest of the text is long.
+#[test]
+fn a_gap_at_each_place_before_each_end() {
+    let symbols = lines(150, 1);
+    at_each_gap(|place, gap| {
+        let (front, back) = symbols.split_at(place);
+        assert_base64(format!("{}{}{}", front, gap, back).as_bytes());
+        for rest in 0..=20 {
+            for end in &["", "=", "==", "\n", "-"] {
+                assert_base64(format!("{}{}{}{}", front, gap, &back[..rest], end).as_bytes());
+            }
+        }
+    });
+}
+
+/// The second gap comes up to sixteen symbols after the first one.
+#[test]
+fn two_gaps_within_a_row() {
+    let symbols = lines(100, 1);
+    at_each_gap(|place, gap| {
+        let (front, back) = symbols.split_at(place);
+        for between in 0..=ROW {
+            let (middle, back) = back.split_at(between);
+            for other in &GAPS {
+                let text = format!("{}{}{}{}{}", front, gap, middle, other, back);
+                assert_base64(text.as_bytes());
+            }
+        }
+    });
+}
+
+/// A byte that is no symbol may come before the gap, in its place and after it.
+#[test]
+fn a_gap_and_each_fault() {
+    let symbols = lines(100, 1);
+    at_each_gap(|place, gap| {
+        let (front, back) = symbols.split_at(place);
+        let text = format!("{}{}{}", front, gap, back).into_bytes();
+        for at in place.saturating_sub(ROW)..place + gap.len() + ROW + 4 {
+            for fault in b"-=_%\0\x0b\x7f\x80\x8a\xa0\xc1\xff" {
+                let mut changed = text.clone();
+                changed[at] = *fault;
+                assert_base64(&changed);
+            }
+        }
+    });
+}
+
+/// One text in eight is cut in two at each place.
+#[test]
+fn gaps_cut_in_two() {
+    let symbols = lines(100, 1);
+    let mut count = 0;
+    at_each_gap(|place, gap| {
+        let (front, back) = symbols.split_at(place);
+        count += 1;
+        if count % 8 == 0 {
+            assert_each_cut(format!("{}{}{}", front, gap, back).as_bytes());
+            let (middle, back) = back.split_at(5);
+            for part in &["\n", "-", "\u{80}", "="] {
+                let text = format!("{}{}{}{}{}", front, gap, middle, part, back);
+                assert_each_cut(text.as_bytes());
+            }
+        }
+    });
 }

@@ -1,8 +1,8 @@
 //! Bodies: a closure is called with their bytes, piece by piece.
 
-ghost use Rattle.std.specs.Prelude.{◌+◌, ◌≡◌, false, length};
+ghost use Rattle.std.specs.Prelude.{◌+◌, ◌≡◌, ◌≤◌, false, length, true};
 ghost use Rattle.std.specs.Fn.{CalledAt};
-ghost use Rattle.data_url.specs.Steps.Chunks.{IsCallableUntilError, IsBodyPrefix, TakesBody};
+ghost use Rattle.data_url.specs.Steps.Chunks.{IsCallableUntilError, IsBodyPrefix, TakesBody, TakesOn, TakesPrefix};
 ghost use Rattle.data_url.specs.Steps.Tail.{IsBodyEnd};
 ghost use Rattle.data_url.specs.Fetch.{outcome, plain_body};
 ghost use Rattle.data_url.specs.DataUrl.{Decodes};
@@ -11,13 +11,38 @@ ghost use Rattle.data_url.specs.Decoder.{state_of};
 use crate::escapes::{BUFFER_LEN, Pieces};
 use crate::forgiving_base64::{DecodeError, Decoder};
 
-/// If the first line of base64 has fewer bytes, newlines are taken out before the decoder is fed. That is faster if the other lines
-/// are as narrow.
-const NARROW: usize = 28;
+/// Calls a closure with the prefix of a body, unless it is empty. Returns its error.
+fn take_prefix<F, E>(prefix: &[u8], take: &mut F) -> Result<(), E>
+where
+    F: FnMut(&[u8]) -> Result<(), E>,
+    requires callable { IsCallableUntilError F.FnMut take.old }
+    ensures { TakesPrefix (CalledAt F.FnMut) take.old prefix.now result take.new }
+{
+    if prefix.is_empty() {
+        return Ok(());
+    }
+    take(prefix)
+}
+
+/// Calls a closure with the raw stretches of a body, until it returns an error. Returns this error.
+fn take_raw<F, E>(pieces: &mut Pieces<'_>, take: &mut F) -> Result<(), E>
+where
+    F: FnMut(&[u8]) -> Result<(), E>,
+    requires callable { IsCallableUntilError F.FnMut take.old }
+    requires short { pieces.old.place + length pieces.old.rest ≤ length pieces.old.text }
+    ensures { TakesOn true (CalledAt F.FnMut) take.old pieces.old result take.new pieces.new }
+{
+    'stretches: while !pieces.has_ended() {
+        let Some(stretch) = pieces.next_raw() else {
+            break 'stretches;
+        };
+        take(stretch)?;
+    }
+    Ok(())
+}
 
 /// Calls a closure with the prefix of a body and the pieces after it, until it returns an error. Returns this error, or the
-/// place in the text where the body ends. If the body is base64 and its first line is not narrow, the pieces up to its first escape
-/// keep their tabs and newlines: the decoder skips them faster than they are taken out.
+/// place in the text where the body ends. If the body is base64, the pieces up to its first escape are raw stretches.
 fn decode_pieces<F, E>(
     prefix: &[u8],
     mut pieces: Pieces<'_>,
@@ -30,16 +55,16 @@ where
     requires prefix { IsBodyPrefix pieces.text prefix.now pieces }
     ensures { TakesBody base64 (CalledAt F.FnMut) take.old pieces.entry.text result take.new }
 {
-    if !prefix.is_empty() {
-        take(prefix)?;
+    take_prefix(prefix, take)?;
+    if base64 {
+        take_raw(&mut pieces, take)?;
     }
     if pieces.has_ended() {
         return Ok(pieces.end());
     }
-    let mut spaced = base64 && prefix.len() >= NARROW;
     let mut room = [0; BUFFER_LEN];
     'chunks: while !pieces.has_ended() {
-        let Some(bytes) = pieces.next_chunk(&mut room, &mut spaced) else {
+        let Some(bytes) = pieces.next_bytes(&mut room) else {
             break 'chunks;
         };
         take(bytes)?;

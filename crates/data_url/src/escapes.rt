@@ -1,17 +1,18 @@
 //! The body of a data: URL in pieces: slices of the input, and the values of escapes (URL Standard, section 1.3,
 //! percent-decode). Nothing is allocated.
 
-ghost use Rattle.std.specs.Prelude.{◌≡◌, ◌+◌, ◌*◌, ◌≤◌, ◌++◌, [], IfNone, IfSome, IsTrue, None, false, length, true};
+ghost use Rattle.std.specs.Prelude.{◌≡◌, ◌+◌, ◌*◌, ◌≤◌, ◌++◌, [], IfNone, IfSome, IsTrue, None, length};
 ghost use Rattle.std.specs.Option.{option_map};
 ghost use Rattle.data_url.specs.Pieces.{IsPiece, walk_at_start, bytes_of_next};
 ghost use Rattle.data_url.specs.Url.{after, number_sign};
-ghost use Rattle.data_url.specs.Steps.Chunks.{GivesBytes, GivesSpaced, IsBodyPrefix};
+ghost use Rattle.data_url.specs.Steps.Chunks.{GivesBytes, GivesRaw, IsBodyPrefix};
 ghost use Rattle.data_url.specs.Steps.Tail.{IsBodyEnd};
 
 mod cursor;
 mod digits;
 mod lanes;
 mod looks;
+mod raw;
 mod source;
 mod stops;
 
@@ -110,7 +111,7 @@ impl<'a> Pieces<'a> {
     pub(crate) fn next_bytes<'r>(&mut self, room: &'r mut [u8; BUFFER_LEN]) -> Option<&'r [u8]>
     where
         'a: 'r,
-        ensures { GivesBytes false self.old result self.new }
+        ensures { GivesBytes self.old result self.new }
     {
         let mut cursor = replace(&mut self.cursor, Cursor::new(""));
         let bytes = cursor.next_bytes(room);
@@ -118,37 +119,15 @@ impl<'a> Pieces<'a> {
         bytes
     }
 
-    /// Returns the next stretch of a body with the tabs and newlines in it, or None at an escape or at the end of the body.
-    /// The walk is moved out and back, so that it can stay in registers.
-    pub(crate) fn next_spaced(&mut self) -> Option<&'a [u8]>
-        ensures { GivesSpaced self.old result self.new }
+    /// Returns the next raw stretch of a body, or None at an escape and at the end of the body. The walk is moved out and back,
+    /// so that it can stay in registers.
+    pub(crate) fn next_raw(&mut self) -> Option<&'a [u8]>
+        ensures { GivesRaw self.old result self.new }
     {
         let mut cursor = replace(&mut self.cursor, Cursor::new(""));
-        let stretch = cursor.next_spaced();
+        let stretch = cursor.next_raw();
         self.cursor = cursor;
         stretch
-    }
-
-    /// Returns the next bytes of a body, or None if it has ended. While `spaced` is true, there may be tabs and newlines between
-    /// them. It becomes false at the first escape, or at the end of the body.
-    #[inline(always)]
-    pub(crate) fn next_chunk<'r>(
-        &mut self,
-        room: &'r mut [u8; BUFFER_LEN],
-        spaced: &mut bool,
-    ) -> Option<&'r [u8]>
-    where
-        'a: 'r,
-        ensures gives { GivesBytes spaced.old self.old result self.new }
-        ensures spaced { spaced.new ≡ true → spaced.old ≡ true }
-    {
-        if *spaced {
-            if let Some(stretch) = self.next_spaced() {
-                return Some(stretch);
-            }
-            *spaced = false;
-        }
-        self.next_bytes(room)
     }
 
     /// Returns whether the walk is known to be at the end of the body.

@@ -10,8 +10,8 @@ use std::marker::Model;
 mod alphabet;
 mod blocks;
 mod decode;
+mod gaps;
 mod held;
-mod units;
 mod whole;
 
 pub use decode::Decoder;

@@ -1,6 +1,6 @@
 -- A closure or a decoder that gets a body piece by piece. For `decode_pieces`, `decode_body` and its callers.
 use Rattle.std.proofs.Common.{IsErr, Result, Ok, Err, refl, sym, ap, ◌∙◌, append_assoc, arith, length-append, Bool}
-use Rattle.std.{proofs.Common.{MatchBool}, proofs.lemmas.List.{nil_from_length, length-map}}
+use Rattle.std.{proofs.Common.{MatchBool}, proofs.lemmas.List.{length-map}}
 use Rattle.std.proofs.Common.{Some, false, cond, min, length-drop, length-take, MatchOption, MatchResult}
 use Rattle.std.proofs.Common.{true, append-nil, ◌<◌, ◌≡◌, ℕ, ◌+◌, ◌≤◌, List, [], ◌∷◌, ◌++◌, Bor, length, Option, None}
 use Rattle.std.{specs.Fn.{CalledAt, Mut, always_mut}, specs.Option.{option_or}, specs.Result.{result_err}}
@@ -11,8 +11,9 @@ use Rattle.data_url.proofs.forgiving_base64.Padding.{decoded_alike, done_alike, 
 use Rattle.data_url.specs.{DataUrl.{Decodes, HandsOut, IsUrlOf, url_body, url_tail}, Steps.Tail.{IsBodyEnd}}
 use Rattle.data_url.specs.{Decoder.{Feeds, Finishes, State, start}, Run.{Call, IsRun, joined_pieces, refusal, IsPrefix}}
 use Rattle.data_url.specs.{Errors.{IsRefused}, Fetch.{Good, outcome_bytes, plain_body, Bad, outcome, Outcome, tail_of}}
-use Rattle.data_url.specs.{Pieces.{Walk}, declared.DataUrl.{DataUrl}}
-use Rattle.data_url.specs.Steps.Chunks.{IsAlike, IsBodyOf, IsBodyPrefix, GivesBytes, IsCallableUntilError, Takes, TakesBody}
+use Rattle.data_url.specs.{Pieces.{Walk, walk_at_start}, declared.DataUrl.{DataUrl}}
+use Rattle.data_url.specs.Steps.Chunks.{IsAlike, IsBodyOf, IsBodyPrefix, IsCallableUntilError, Takes, TakesBody}
+use Rattle.data_url.specs.Steps.Chunks.{TakesOn}
 use Rattle.data_url.specs.{Steps.Whole.{DecodesText}, declared.forgiving_base64.DecodeError.{DecodeError}}
 use Rattle.data_url.specs.Url.{after, trimmed_text}
 use Rattle.data_url.specs.declared.forgiving_base64.DecodeError.TheVariants.{WriteError, InvalidBase64}
@@ -24,27 +25,32 @@ use Rattle.data_url.proofs.runs.Runs.{prefix_after, joined_pieces-append, match_
 use denote.Param.Always.{mut_next}
 pub use Rattle.data_url.proofs.escapes.Reading.{body_shorter}
 
--- if the next of a walk is `Some bytes`, these are the next bytes of its body
-pub takes_next : (spaced : Bool) {w w' : Walk} {given : Option (Bor (List ℕ))} {bytes : Bor (List ℕ)}
-    → GivesBytes spaced w given w' → given ≡ Some bytes → Takes spaced w bytes.now w'
-takes_next spaced {w} {w'} h e = grind arith
-
 -- equal texts are alike
 alike_same : (spaced : Bool) (x y : List ℕ) → x ≡ y → IsAlike spaced x y
 alike_same false x y e = e
 alike_same true x y e = ap without_whitespace e
 
--- bytes that are taken with no white space between them are also taken if it does not count
-pub takes_weaker : (spaced base64 : Bool) {w w' : Walk} {bytes : List ℕ} → (spaced ≡ true → base64 ≡ true)
-    → Takes spaced w bytes w' → Takes base64 w bytes w'
-takes_weaker true base64 h t = rw (h refl) t
-takes_weaker false base64 h t = record {
+-- bytes that are taken as they are can also be said to be taken but for white space
+pub takes_weaker : (spaced : Bool) {w w' : Walk} {bytes : List ℕ} → Takes false w bytes w' → Takes spaced w bytes w'
+takes_weaker spaced t = record {
   text_stays = t.text_stays;
-  rest_is = alike_same base64 _ _ t.rest_is;
+  rest_is = alike_same spaced _ _ t.rest_is;
   place = t.place;
   within = t.within;
   some = t.some;
   short = t.short;
+}
+
+-- the prefix of a body is what the walk takes first, if it is not empty
+pub takes_prefix : (spaced : Bool) {text bytes : List ℕ} {w : Walk} → IsBodyPrefix text bytes w → 0 < length bytes
+    → Takes spaced (walk_at_start text) bytes w
+takes_prefix spaced i some = record {
+  text_stays = i.text_is;
+  rest_is = alike_same spaced _ _ i.body_is;
+  place = omega (arith, i.few);
+  within = omega (arith, i.within, ap length i.text_is);
+  some = some;
+  short = omega (arith, i.short, ap length i.text_is);
 }
 
 -- texts that are alike, one after other, are alike
@@ -60,84 +66,80 @@ or_none None = refl
 or_none (Some x) = refl
 
 module _ {F E : Type 0} (step : F → List ℕ → Result (Unit {0}) E → F → Type 0) where
-  -- the closure was called with the body up to the place of the walk, and its last call returned this
-  pub record Going (spaced : Bool) (f : F) (text : List ℕ) (w : Walk) (answer : Result (Unit {0}) E) (g : F)
-      : Type 0 where
-    pub run : List (Call F E)
-    pub ran : IsRun step f run g
-    pub answered : refusal run ≡ result_err answer
-    pub text_is : w.text ≡ text
-    pub place : w.place ≤ length text
-    pub calls : length run ≤ w.place
-    pub few : length (joined_pieces run) ≤ w.place
-    pub short : w.place + length w.rest ≤ length text
-    pub body : IsAlike spaced (plain_body text) (joined_pieces run ++ w.rest)
-
-  -- if the walk takes bytes, and the closure is called with them, the run with that call is that of the walk after it
-  pub going_more : (spaced : Bool) {f g h : F} {text bytes : List ℕ} {w w' : Walk} (answer : Result (Unit {0}) E)
-      → Going spaced f text w (Ok tt) g → Takes spaced w bytes w' → step g bytes answer h
-      → Going spaced f text w' answer h
-  going_more spaced {f} {g} {h} {text} {bytes} {w} {w'} answer k t s =
-      let call : List (Call F E) = record { piece = bytes; answer = answer; after = h } ∷ [] in
-      let longer = length-append k.run call in
-      let same = t.text_stays ∙ k.text_is in
-      let joined : joined_pieces (k.run ++ call) ≡ joined_pieces k.run ++ bytes =
-      joined_pieces-append k.run call ∙ ap (λ x. joined_pieces k.run ++ x) (append-nil bytes) in
-      record {
-        run = k.run ++ call;
-        ran = run-append step k.run call f g h k.ran k.answered (s, λ e. refl, refl);
-        answered = refusal-append k.run call k.answered ∙ or_none (result_err answer);
-        text_is = same;
-        place = omega (arith, t.within, ap length same);
-        calls = grind arith;
-        few = omega (arith, k.few, t.place, ap length joined, length-append (joined_pieces k.run) bytes);
-        short = omega (arith, t.short, ap length same);
-        body = rw joined (alike_more spaced (plain_body text) (joined_pieces k.run) bytes w.rest w'.rest k.body t.rest_is);
-      }
-
-  -- the closure was called with the prefix of the body
-  pub going_prefix : (spaced : Bool) {f g : F} {text bytes : List ℕ} {w : Walk} (answer : Result (Unit {0}) E)
-      → IsBodyPrefix text bytes w → 0 < length bytes → step f bytes answer g → Going spaced f text w answer g
-  going_prefix spaced {g = g} {bytes = bytes} answer i some s = record {
+  -- the closure was called with the bytes that the walk takes
+  pub takes_on_call : (spaced : Bool) {f g : F} {bytes : List ℕ} {w w' : Walk} (answer : Result (Unit {0}) E)
+      → Takes spaced w bytes w' → step f bytes answer g → TakesOn spaced step f w answer g w'
+  takes_on_call spaced {g = g} {bytes = bytes} answer t s = record {
     run = record { piece = bytes; answer = answer; after = g } ∷ [];
     ran = (s, λ e. refl, refl);
     answered = or_none (result_err answer);
-    text_is = i.text_is;
-    place = i.within;
-    calls = omega (arith, i.few, some);
-    few = omega (arith, i.few, ap length (append-nil bytes));
-    short = i.short;
-    body = alike_same spaced _ _ (cc (i.body_is, append-nil bytes));
+    text_stays = t.text_stays;
+    calls = omega (arith, t.place, t.some);
+    few = omega (arith, t.place, ap length (append-nil bytes));
+    within = t.within;
+    short = t.short;
+    body = rw (append-nil bytes) t.rest_is;
   }
 
-  -- the prefix of the body is empty, and the closure was not called
-  pub going_none : (spaced : Bool) {f : F} {text : List ℕ} (bytes : List ℕ) {w : Walk} → IsBodyPrefix text bytes w
-      → length bytes ≡ 0 → Going spaced f text w (Ok tt) f
-  going_none spaced {f} bytes i none = grind (arith, nil_from_length, alike_same)
+  -- the closure was called with what the walk takes before a place, and then with what it takes after it
+  pub takes_on_then : (spaced : Bool) {f g h : F} {w0 w w' : Walk} {answer : Result (Unit {0}) E}
+      → TakesOn spaced step f w0 (Ok tt) g w → TakesOn spaced step g w answer h w'
+      → TakesOn spaced step f w0 answer h w'
+  takes_on_then spaced {f} {g} {h} {w0} {w} {w'} a b =
+      let joined = joined_pieces-append a.run b.run in
+      record {
+        run = a.run ++ b.run;
+        ran = run-append step a.run b.run f g h a.ran a.answered b.ran;
+        answered = refusal-append a.run b.run a.answered ∙ b.answered;
+        text_stays = b.text_stays ∙ a.text_stays;
+        calls = omega (arith, a.calls, b.calls, length-append a.run b.run);
+        few = omega (
+          arith,
+          a.few,
+          b.few,
+          ap length joined,
+          length-append (joined_pieces a.run) (joined_pieces b.run),
+        );
+        within = b.within;
+        short = b.short;
+        body = rw joined (alike_more spaced w0.rest (joined_pieces a.run) (joined_pieces b.run) w.rest w'.rest a.body
+            b.body);
+      }
 
   -- at the end of the body, the closure was called with the whole of it
-  pub took_all : (spaced : Bool) {f g : F} {text : List ℕ} {w : Walk} {place : ℕ} → Going spaced f text w (Ok tt) g
-      → w.rest ≡ [] → IsBodyEnd w.text place → TakesBody spaced step f text (Ok place) g
+  pub took_all : (spaced : Bool) {f g : F} {text : List ℕ} {w : Walk} {place : ℕ}
+      → TakesOn spaced step f (walk_at_start text) (Ok tt) g w → w.rest ≡ [] → IsBodyEnd w.text place
+      → TakesBody spaced step f text (Ok place) g
   took_all spaced {f} {g} {text} {w} {place} k over end =
       let whole : joined_pieces k.run ++ w.rest ≡ joined_pieces k.run = cc (append-nil (joined_pieces k.run)) in
-      let body = rw whole at k.body in grind arith
+      let body = rw whole at k.body in
+      let long = ap length k.text_stays in grind arith
 
   -- if the closure returned an error, it took the body up to that error
-  pub took_refused : (spaced : Bool) {f g : F} {text : List ℕ} {w : Walk} {e : E} → Going spaced f text w (Err e) g
-      → TakesBody spaced step f text (Err e) g
-  took_refused spaced {f} {g} {text} {w} {e} k = record {
-    run = k.run;
-    ran = k.ran;
-    calls = omega (arith, k.calls, k.place);
-    gave = (
-      k.answered,
-      w.rest,
+  pub took_refused : (spaced : Bool) {f g : F} {text : List ℕ} {w : Walk} {e : E}
+      → TakesOn spaced step f (walk_at_start text) (Err e) g w → TakesBody spaced step f text (Err e) g
+  took_refused spaced {f} {g} {text} {w} {e} k =
+      let long = ap length k.text_stays in
       record {
-        few = omega (arith, k.few, k.short, length-append (joined_pieces k.run) w.rest);
-        alike = k.body;
-      },
-    );
-  }
+        run = k.run;
+        ran = k.ran;
+        calls = omega (arith, k.calls, k.within);
+        gave = (
+          k.answered,
+          w.rest,
+          record {
+            few = omega (arith, k.few, k.short, length-append (joined_pieces k.run) w.rest);
+            alike = k.body;
+          },
+        );
+      }
+
+-- after calls that return no error, the closure can still be called until it returns an error
+pub callable_on : {F E : Type 0} (closure : Mut F (Bor (List ℕ) × Unit {0}) (Result (Unit {0}) E)) {spaced : Bool}
+    {f g : F} {w w' : Walk} → IsCallableUntilError closure f → TakesOn spaced (CalledAt closure) f w (Ok tt) g w'
+    → IsCallableUntilError closure g
+callable_on closure {f = f} {g = g} can t = λ run h ran n bytes. can (t.run ++ run) h
+    (run-append (CalledAt closure) t.run run f g h t.ran t.answered ran) (refusal-append t.run run t.answered ∙ n) bytes
 
 -- the result, with the place as its value if it is `Ok`
 abbrev at_place : {E : Type 0} → ℕ → Result (Unit {0}) (DecodeError E) → Result ℕ (DecodeError E)

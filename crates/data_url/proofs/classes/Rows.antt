@@ -11,7 +11,9 @@ use Rattle.std.{proofs.Common.{bit_or, eqb, ◌&&◌}, proofs.Math.Bool.{and_ass
 use Rattle.data_url.specs.Steps.Classes.{AreOf, is_marked, looked_up}
 use Rattle.data_url.specs.declared.classes.TheConstants.{CLASSES}
 use Rattle.data_url.proofs.forgiving_base64.Vectors.{differs, or_zero}
-use lib.Lanes.{fold_l, mask_l, top, zip2}
+use Rattle.std.proofs.Common.{◌++◌, nat_lt, suc, zero}
+use Rattle.std.specs.List.{range_with_len}
+use lib.Lanes.{fold_l, mask_l, sel_l, top, zip2}
 
 -- the bits of the items that differ from 0 are the mask of the row's marked bytes
 pub marks_are : (others v found : List ℕ) → length v ≡ 16 → found ≡ map (looked_up others) v
@@ -32,6 +34,32 @@ or_all f a (x ∷ v) = grind (arith, or_all f (bit_or a (f x)) v, or_zero a (f x
 pub unmarked_is : (others v found : List ℕ) → found ≡ map (looked_up others) v
     → eqb (fold_l bit_or 0 found) 0 ≡ list_all (λ b. not (is_marked others b)) v
 unmarked_is others v found e = ap (λ l. eqb (fold_l bit_or 0 l) 0) e ∙ or_all (looked_up others) 0 v
+
+-- for each of n indices from i on, whether it is less than p
+abbrev are_before : ℕ → ℕ → ℕ → List Bool
+are_before p i n = map (λ k. top 7 (cond (nat_lt k p) 255 0)) (range_with_len i n)
+
+-- items whose index is not less than p come from the second list
+sel_after : (p i : ℕ) (xs ys : List ℕ) → length xs ≡ length ys → p ≤ i → sel_l (are_before p i (length xs)) xs ys ≡ ys
+sel_after p i [] [] e l = refl
+sel_after p i [] (y ∷ ys) e l = absurd (omega arith)
+sel_after p i (x ∷ xs) [] e l = absurd (omega arith)
+sel_after p i (x ∷ xs) (y ∷ ys) e l = grind (arith, sel_after p (suc i) xs ys)
+
+-- the first q items come from the first list
+sel_from : (p i q : ℕ) (xs ys : List ℕ) → length xs ≡ length ys → p ≡ i + q
+    → sel_l (are_before p i (length xs)) xs ys ≡ take q xs ++ drop q ys
+sel_from p i zero xs ys e l = grind (arith, sel_after)
+sel_from p i (suc q) [] [] e l = refl
+sel_from p i (suc q) [] (y ∷ ys) e l = absurd (omega arith)
+sel_from p i (suc q) (x ∷ xs) [] e l = absurd (omega arith)
+sel_from p i (suc q) (x ∷ xs) (y ∷ ys) e l = grind (arith, sel_from p (suc i) q xs ys)
+
+-- the first items of a row, and then those of another one
+pub sel_before : (xs ys : List ℕ) (p : ℕ) → length xs ≡ 16 → length ys ≡ 16 → p ≤ 16
+    → sel_l (are_before p 0 16) xs ys ≡ take p xs ++ drop p ys
+sel_before xs ys p e h l =
+    let s = sel_from p 0 p xs ys (e ∙ sym h) (omega arith) in rw e at s
 
 -- the bytes before a place are of a class
 pub record Looked (others bytes : List ℕ) (at : ℕ) : Type 0 where

@@ -276,7 +276,7 @@ pub over_next : {c c1 c2 : Cursor} {room0 room : List ℕ} {len : ℕ} → Gathe
     → GoesOn c1 None c2 → Knows c2 → IsOver (walk_of c) (walk_of c2)
 over_next {c} {c1} {c2} g e h k = grind (arith, rest_over)
 
--- Stretches with tabs and newlines in them. For `next_spaced`.
+-- Stretches with tabs and newlines in them. For `next_raw`.
 
 -- tabs and newlines are white space, so a text without white space has none
 spaces_gone : (s : List ℕ) → without_whitespace (without_tabs_and_newlines s) ≡ without_whitespace s
@@ -406,23 +406,11 @@ pub spans_on : {s0 s : Source} {from middle to : ℕ} → LooksOn s0 s → Spans
     → Spans s.text.now middle to → Spans s0.text.now from to
 spans_on a k l = spans_then k (rw a.text_stays at l)
 
--- a range goes on up to the next mark
-pub spans_mark : {s0 s s1 : Source} {from to mark : ℕ} → LooksOn s0 s → LooksOn s s1 → Spans s0.text.now from to
-    → IsNextMark s.text.now to mark → Spans s1.text.now from mark
-spans_mark {s0} {s} {s1} {from} {to} {mark} a b k m =
-    let clear = spans_spelled (spells_clear s.text.now to mark m.forward m.within m.clear) in
-    rw (b.text_stays) (spans_then (rw (sym a.text_stays) at k) clear)
-
--- what is true of every walk stays true after a stretch
-pub knows_spaced : {c c' : Cursor} → Knows c → Spans (text_of c) c.place c'.place → text_of c' ≡ text_of c
-    → KnowsAhead c' c'.ahead → Knows c'
-knows_spaced {c} {c'} k a t h = record { after_is = rw t (k.after_is ∙ a.after_is); ahead_is = h }
-
--- a stretch is taken with the white space in it
-pub takes_spaced : (c c' : Cursor) {bytes : List ℕ} → Spans (text_of c) c.place c'.place → text_of c' ≡ text_of c
+-- a raw stretch is taken with the white space in it
+pub takes_raw : (c c' : Cursor) {bytes : List ℕ} → Spans (text_of c) c.place c'.place → text_of c' ≡ text_of c
     → bytes ≡ slice_range (text_of c) c.place c'.place → c.place < c'.place
     → Takes true (walk_of c) bytes (walk_of c')
-takes_spaced c c' {bytes} a t e l =
+takes_raw c c' {bytes} a t e l =
     let size =
     length-take-le (c'.place - c.place) (drop c.place (text_of c)) (omega (arith, a.within, length-drop {A = ℕ})) in
     let long = ap length e ∙ size in

@@ -1,9 +1,9 @@
 -- Groups of four symbols, and texts that are fed in two parts.
-use Rattle.std.proofs.Common.{suc, zero, sym, get_or, take, drop, refl, ap, ap₂, arith, length-take}
+use Rattle.std.proofs.Common.{sym, get_or, take, drop, refl, ap, ap₂, arith, length-take}
 use Rattle.std.proofs.Common.{get_or-take, take-append-drop, append-nil, take-take, take_at}
 use Rattle.std.proofs.Common.{drop-drop, length-drop}
 use Rattle.std.proofs.Common.{length-take-le, ◌∙◌, false, min, None, take-add, append_assoc, length-append, ◌/◌}
-use Rattle.std.proofs.Common.{◌≡◌, ℕ, ◌+◌, ◌*◌, ◌≤◌, true, ◌&&◌, ◌||◌, List, [], ◌∷◌, ◌++◌, map, length, ◌-◌}
+use Rattle.std.proofs.Common.{◌≡◌, ℕ, Bool, ◌+◌, ◌*◌, ◌≤◌, true, ◌&&◌, ◌||◌, List, [], ◌∷◌, ◌++◌, map, length, ◌-◌}
 use Rattle.std.{proofs.Math.Seq.{take-append-add}, proofs.lemmas.Bool.{and_parts}, specs.Char.{is_ascii_whitespace}}
 use Rattle.std.{proofs.lemmas.List.Elements.{filter-append}, proofs.lemmas.List.Folds.{list_all-append}}
 use Rattle.std.proofs.lemmas.List.Sums.{list_all-from_AllPass, prefix_len-le-length, prefix_len_passes}
@@ -12,7 +12,7 @@ use Rattle.std.specs.List.{list_all, prefix_len, filter, list_any}
 use Rattle.data_url.specs.Base64.{decoded, first_fault, left_padding, left_symbols, left_text}
 use Rattle.data_url.specs.Base64.{group_bytes, group_number, groups, is_symbol, symbol_value, values, after_groups}
 use Rattle.data_url.specs.{Laws.{GoesOn, TwoFeeds}, Steps.Lanes.{DecodesFront}}
-use Rattle.data_url.specs.Steps.Groups.{Fills, is_symbol_or_space}
+use Rattle.data_url.specs.Steps.Groups.{Fills, IsOverGap, is_symbol_or_space}
 use Rattle.data_url.proofs.forgiving_base64.Padding.{after_groups-append, after_groups-map, before-append, before_none}
 use Rattle.data_url.proofs.forgiving_base64.Padding.{any_filter, filter_every, classes, every_list_all, filter_all}
 use Rattle.data_url.proofs.forgiving_base64.Padding.{done_is, every_after, fault-append, fault_byte, fault_invalid}
@@ -51,9 +51,10 @@ symbols_alone (b ∷ s) h =
     let p = and_parts (is_symbol b) (list_all is_symbol s) h in
     ap₂ (λ x y. x && y) (ap (λ t. t || is_ascii_whitespace b) p.0) (symbols_alone s p.1)
 
--- the longest prefix of white space is white space
-pub spaces_front : (t : List ℕ) → list_all is_ascii_whitespace (take (prefix_len is_ascii_whitespace t) t) ≡ true
-spaces_front t = grind (arith, list_all-from_AllPass, length-take, get_or-take, prefix_len_passes, prefix_len-le-length)
+-- the items before the first one that fails a test pass it
+pub prefix_passes : (p : ℕ → Bool) (t : List ℕ) → list_all p (take (prefix_len p t) t) ≡ true
+prefix_passes p t =
+    grind (arith, list_all-from_AllPass, length-take, get_or-take, prefix_len_passes, prefix_len-le-length)
 
 -- a text of white space has no symbols, and only symbols and white space
 spaces_only : (t : List ℕ) → list_all is_ascii_whitespace t ≡ true
@@ -74,12 +75,6 @@ symbols_kept (c ∷ t) = grind (arith, symbols_kept t)
 pub fills_nothing : (held : List ℕ) → Fills held [] held
 unfolding groups
 fills_nothing held = grind (arith, append-nil)
-
--- no bytes have no groups
-pub fills_none : {held held' : List ℕ} (text : List ℕ) (n : ℕ) → n ≡ 0 → Fills held (take n text) held' → held' ≡ held
-unfolding groups
-fills_none text zero e f = grind (arith, append-nil)
-fills_none text (suc n) e f = absurd (omega arith)
 
 -- a text fills held to h1, and then another fills h1 to h2
 pub fills_then : {held h1 h2 : List ℕ} (a b : List ℕ) → Fills held a h1 → Fills h1 b h2 → Fills held (a ++ b) h2
@@ -131,6 +126,44 @@ leaves_then {rest = rest} n l f = rw (take_rest rest n) (record {
 -- a row of a text has sixteen bytes
 pub row_long : {row : List ℕ} (text : List ℕ) → row ≡ take 16 text → 16 ≤ length text → length row ≡ 16
 row_long text is h = ap length is ∙ length-take-le 16 text h
+
+-- sixteen symbols that are a part of a text, with white space taken out in one place, are its first sixteen symbols
+pub over_gap : (text symbols : List ℕ) (p k : ℕ) → p ≤ 16 → 16 + k ≤ length text
+    → symbols ≡ take p text ++ take (16 - p) (drop (p + k) text) → list_all is_symbol symbols ≡ true
+    → list_all is_ascii_whitespace (take k (drop p text)) ≡ true → IsOverGap text symbols k
+over_gap text symbols p k few within is all spaces =
+    let x = take p text in
+    let gap = take k (drop p text) in
+    let y = take (16 - p) (drop (p + k) text) in
+    let only = spaces_only gap spaces in
+    let size : 16 + k ≡ p + (k + (16 - p)) = omega arith in
+    let whole : take (16 + k) text ≡ x ++ (gap ++ y) =
+    ap (λ n. take n text) size ∙ take-add p (k + (16 - p)) text
+    ∙ ap (λ t. x ++ t) (take-add k (16 - p) (drop p text) ∙ ap (λ t. gap ++ take (16 - p) t) (drop-drop k p text)) in
+    let each = sym (list_all-append is_symbol x y) ∙ sym (ap (list_all is_symbol) is) ∙ all in
+    let parts = and_parts (list_all is_symbol x) (list_all is_symbol y) each in
+    let front : filter is_symbol x ≡ x = filter_all is_symbol x (every_list_all x parts.0) in
+    let back : filter is_symbol y ≡ y = filter_all is_symbol y (every_list_all y parts.1) in
+    record {
+      within = within;
+      long = omega (
+        arith,
+        ap length is,
+        length-append x y,
+        length-take-le p text (omega arith),
+        length-take-le (16 - p) (drop (p + k) text) (omega (arith, length-drop (p + k) text)),
+      );
+      spaced = cc (
+        whole,
+        list_all-append is_symbol_or_space x (gap ++ y),
+        list_all-append is_symbol_or_space gap y,
+        symbols_alone x parts.0,
+        only.1,
+        symbols_alone y parts.1,
+      );
+      symbols_are =
+          cc (whole, filter-append is_symbol x (gap ++ y), filter-append is_symbol gap y, only.0, front, back, is);
+    }
 
 -- the symbols of the groups that a text begins with, and of white space after them, are those of its first row
 pub front_symbols : (row text : List ℕ) (m k : ℕ) → row ≡ take 16 text → m ≤ 4

@@ -1,7 +1,7 @@
--- Units of symbols with white space between them. For `units.rt`.
+-- Rows with gaps, and units of symbols with white space between them. For `gaps.rt`.
 use Rattle.std.proofs.Common.{List, ◌++◌, map, ◌≡◌, ℕ, ◌<◌, ◌≤◌, ◌+◌, ◌*◌, ◌-◌, ◌/◌, ◌%◌, ◌^◌, true, false, cond, get_or, ⊎_elim}
 use Rattle.std.proofs.Common.{length-take-le, length, take, drop, ap, sym, ◌∙◌, arith, take-take, take-append-drop}
-use Rattle.std.proofs.Common.{append_assoc, append-nil, take-add, take_at, suc, zero}
+use Rattle.std.proofs.Common.{append_assoc, append-nil, take-add, take_at, suc, zero, refl, [], ◌∷◌}
 use Rattle.std.proofs.Math.Seq.{take-append-add}
 use Rattle.std.proofs.lemmas.Bool.{and_parts, cases_lt}
 use Rattle.std.proofs.lemmas.List.{length-map, map-append}
@@ -9,7 +9,8 @@ use Rattle.std.proofs.lemmas.List.Elements.{filter-append}
 use Rattle.std.proofs.lemmas.List.Filters.{length-filter_more}
 use Rattle.std.proofs.lemmas.List.Folds.{list_all-append}
 use Rattle.std.proofs.lemmas.Simd.{mask_l-lt}
-use Rattle.std.specs.List.{filter, list_all}
+use Rattle.std.specs.Simd.Lanes.{mask_l}
+use Rattle.std.specs.{Int.Count.{count_trailing_zeros}, List.{filter, list_all, prefix_len}}
 use Rattle.data_url.specs.Base64.{groups, is_symbol, symbol_value}
 use Rattle.data_url.specs.Steps.Groups.{Fills, clear, is_symbol_or_space}
 use Rattle.data_url.specs.Steps.Lanes.{DecodesFront}
@@ -24,6 +25,15 @@ pub others_small : (v : List ℕ) {mask : ℕ} → length v ≡ 16 → mask ≡ 
 others_small v {mask} long is =
     let size : 2 ^ length (map is_other v) ≡ 65536 = ap (λ n. 2 ^ n) (length-map v is_other ∙ long) in
     omega (arith, is, size, mask_l-lt (map is_other v))
+
+-- the lowest bit of the mask is that of the first byte that is no symbol
+pub first_other : (k : ℕ) (v : List ℕ) → length v ≡ k
+    → count_trailing_zeros k (mask_l (map is_other v)) ≡ prefix_len is_symbol v
+unfolding count_trailing_zeros
+first_other zero [] e = refl
+first_other zero (x ∷ v) e = absurd (omega arith)
+first_other (suc k) [] e = absurd (omega arith)
+first_other (suc k) (x ∷ v) e = grind (arith, first_other k v)
 
 -- the symbols of one row more are packed
 pub row_symbols : (text old new v : List ℕ) (have at next : ℕ) {mask : ℕ} → filter is_symbol (take at text) ≡ take have old

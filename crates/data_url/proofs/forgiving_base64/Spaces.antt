@@ -1,4 +1,4 @@
--- Rows of symbols with white space between them: the bits of the others, and what is left without them. For `units.rt`.
+-- Rows of symbols with white space between them: the bits of the others, and what is left without them. For `gaps.rt`.
 use Rattle.std.proofs.Common.{List, [], ◌∷◌, ◌++◌, map, ◌≡◌, ℕ, true, false, cond, eqb}
 use Rattle.std.proofs.Common.{length, take, drop, ap, ◌+◌, ◌*◌}
 use Rattle.std.proofs.Common.{◌/◌, ◌^◌, Bool, refl, sym, ◌∙◌, arith, ◌&&◌, take-append-drop}

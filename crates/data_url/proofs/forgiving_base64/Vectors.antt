@@ -7,7 +7,7 @@ use Rattle.std.{proofs.Common.{◌≤◌, ◌&&◌, drop, bit_or}, proofs.lemmas
 use Rattle.std.{proofs.Math.Bool.{and_assoc}, specs.List.{range_with_len, list_all}}
 use Rattle.std.proofs.lemmas.Bool.{agree_below_at, and_parts, eqb-true, ltb-true, cases_eq, ne_eqb}
 use Rattle.std.proofs.lemmas.List.{get_or-map, length-map, map-append, nil_from_length, take-map}
-use Rattle.std.proofs.lemmas.Nat.{and_le_r, and_le_l, mod-pow-add}
+use Rattle.std.proofs.lemmas.Nat.{and_le_r, and_le_l}
 use Rattle.std.proofs.lemmas.Simd.{length-swz_l, pick_l_whole, swz_l}
 use Rattle.std.proofs.lemmas.Simd.{SwzOk-from_below, get_or_narrower}
 use Rattle.std.proofs.lemmas.Simd.{zip2_of_maps, Each1-get_or, SwzOk, map-map, get_or-swz_l_below}
@@ -290,14 +290,6 @@ split_block text = grind (arith, take-add 48 16 text, take-add 32 16 text, take-
 -- the mask of the bytes that are no symbols
 abbrev pub others_mask : List ℕ → ℕ
 others_mask v = mask_l (map is_other v)
-
--- if the mask is a multiple of 2 ^ k, the first k bytes are symbols
-pub front_of_mask : (k : ℕ) (v : List ℕ) {mask : ℕ} → mask ≡ others_mask v → mask % 2 ^ k ≡ 0
-    → list_all is_symbol (take k v) ≡ true
-front_of_mask zero v is e = refl
-front_of_mask (suc k) [] is e = refl
-front_of_mask (suc k) (x ∷ v) is e =
-    grind (arith, front_of_mask k v {mask = others_mask v} refl, mod-pow-add (others_mask (x ∷ v)) k 1)
 
 -- the mask of the items that do not pass a test is zero exactly if all pass
 pub mask_zero : (p : ℕ → Bool) (v : List ℕ) → eqb (mask_l (map (λ b. not (p b)) v)) 0 ≡ list_all p v

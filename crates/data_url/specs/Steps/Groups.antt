@@ -1,7 +1,7 @@
 -- The complete groups at the start of a text, and the bytes of groups that are held.
 use Rattle.std.specs.Char.{is_ascii_whitespace}
 use Rattle.std.specs.List.{filter, list_all}
-use Rattle.std.specs.Prelude.{[], if◌then◌else◌, ◌%◌, ◌++◌, ◌/◌, ◌==◌, ◌||◌, ◌∷◌, ◌≡◌, Bool, IsTrue, List, length, map, take, ℕ}
+use Rattle.std.specs.Prelude.{[], if◌then◌else◌, ◌%◌, ◌++◌, ◌+◌, ◌/◌, ◌==◌, ◌||◌, ◌∷◌, ◌≡◌, ◌≤◌, Bool, IsTrue, List, length, map, take, ℕ}
 use Rattle.data_url.specs.Base64.{groups, is_symbol, symbol_value}
 use Rattle.data_url.specs.declared.forgiving_base64.held.HeldGroups.{HeldGroups}
 
@@ -17,6 +17,13 @@ clear (x ∷ xs) bits = if bits % 2 == 0 then x ∷ clear xs (bits / 2) else cle
 pub record IsWhole (text : List ℕ) : Type 0 where
   pub spaced : IsTrue (list_all is_symbol_or_space text)
   pub whole : length (filter is_symbol text) % 4 ≡ 0
+
+-- these are the first sixteen symbols of the text, and before the last of them is so much white space
+pub record IsOverGap (text symbols : List ℕ) (spaces : ℕ) : Type 0 where
+  pub within : 16 + spaces ≤ length text
+  pub long : length symbols ≡ 16
+  pub spaced : IsTrue (list_all is_symbol_or_space (take (16 + spaces) text))
+  pub symbols_are : filter is_symbol (take (16 + spaces) text) ≡ symbols
 
 -- the text has only complete groups and white space, and held' is held followed by the bytes of these
 -- groups

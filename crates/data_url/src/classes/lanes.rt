@@ -32,6 +32,20 @@ pub(crate) fn put(bytes: &mut [u8], at: usize, row: u8x16)
     row.copy_to_slice(&mut bytes[at..]);
 }
 
+/// The places in a row.
+const PLACES: [u8; 16] = [0, 1, 2, 3, 4, 5, 6, 7, 8, 9, 10, 11, 12, 13, 14, 15];
+
+/// Returns the first `at` bytes of a row, and then those of another one from there on.
+#[inline(always)]
+pub(crate) fn spliced(first: u8x16, second: u8x16, at: usize) -> u8x16
+    requires { at ≤ 16 }
+    ensures { result ≡ take at first ++ drop at second }
+{
+    u8x16::from_array(PLACES)
+        .simd_lt(u8x16::splat(at as u8))
+        .select(first, second)
+}
+
 /// Looks up both halves of each byte of a row. Returns the bits that their entries have in common: none only where the
 /// byte is in the class.
 #[inline(always)]

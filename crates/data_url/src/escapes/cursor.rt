@@ -2,18 +2,18 @@
 
 #![tactic(auto, using(crate::proofs::escapes::Walking::walks))]
 
-ghost use Rattle.std.specs.Prelude.{ℕ, [], ◌≡◌, ◌+◌, ◌++◌, ◌==◌, ◌<◌, ◌≤◌, IfNone, IfSome, IsTrue, drop, false, length, map, slice_index, take, true};
+ghost use Rattle.std.specs.Prelude.{ℕ, [], ◌≡◌, ◌+◌, ◌++◌, ◌==◌, ◌<◌, ◌≤◌, IfNone, IfSome, drop, false, length, map, slice_index, take, true};
 ghost use Rattle.std.specs.Simd.Lanes.{mask_l};
 ghost use Rattle.std.specs.Option.{option_map_or};
 ghost use Rattle.data_url.specs.Pieces.{is_slice_end, text_of, walk_at_start, walk_of};
-ghost use Rattle.data_url.specs.Steps.Chunks.{GivesBytes, GivesSpaced, IsBodyPrefix, Spans};
+ghost use Rattle.data_url.specs.Steps.Chunks.{GivesBytes, IsBodyPrefix};
 ghost use Rattle.data_url.specs.Steps.Escapes.{front_values};
 ghost use Rattle.data_url.specs.Url.{is_tab_or_newline, percent_sign};
-ghost use Rattle.data_url.specs.Steps.Walk.{Gathering, Gathers, GoesOn, HasRoom, IsClear, IsGathered, IsLast, IsPart, IsWhole, IsWide, Knows, KnowsAhead, Looking, LooksOn, MayGather, Moves, Searching, Spells};
+ghost use Rattle.data_url.specs.Steps.Walk.{Gathering, Gathers, GoesOn, HasRoom, IsGathered, IsLast, IsPart, IsWhole, IsWide, Knows, KnowsAhead, Looking, LooksOn, MayGather, Moves, Searching, Spells};
 ghost use Rattle.data_url.specs.Steps.Window.{is_marked};
 
 use super::Piece;
-use super::lanes::{BLOCK, bits_of, decode_escapes, len_before_stop, marks_of, may_stop, stops_of};
+use super::lanes::{BLOCK, bits_of, decode_escapes, len_before_stop, marks_of, stops_of};
 use super::source::{Source, padded};
 use super::stops::{Block, Stop};
 use crate::packing::pack_block;
@@ -40,10 +40,6 @@ const FEW: usize = 12;
 /// past the end of the block begins there.
 const SHORT_REST: usize = 2;
 
-/// A stretch with tabs and newlines in it ends once it has at least this many bytes, so that a fault is found before much more
-/// of the text is read.
-const LONG: usize = 4096;
-
 /// What is known of the text at the place of a walk.
 #[derive(Drop)]
 pub(super) enum Ahead {
@@ -61,7 +57,7 @@ pub(super) enum Ahead {
 #[derive(Drop)]
 pub(super) struct Cursor<'a> {
     pub(super) source: Source<'a>,
-    block: Block,
+    pub(super) block: Block,
     pub(super) place: usize,
     pub(super) ahead: Ahead,
 }
@@ -180,107 +176,13 @@ impl<'a> Cursor<'a> {
         Piece::Slice(slice)
     }
 
-    /// The next stretch with the tabs and newlines in it: up to an escape, the end of the body, or some place where it is long.
-    /// Returns None if it is empty, or if something is known of the place.
-    #[inline(always)]
-    pub(super) fn next_spaced(&mut self) -> Option<&'a [u8]>
-        requires { Knows self.old }
-        ensures gives { GivesSpaced (walk_of self.old) result (walk_of self.new) }
-        ensures knows { Knows self.new }
-    {
-        if !matches!(self.ahead, Ahead::Unknown) {
-            return None;
-        }
-        let mut from = self.place;
-        loop {
-            from = self.skip_plain(from);
-            if from - self.place >= LONG {
-                return self.spaced_to(from, Ahead::Unknown);
-            }
-            if self.is_clear(from) {
-                from = self.block.seen;
-                continue;
-            }
-            let mark = self.block.next_mark(&mut self.source, from);
-            match self.source.stop_at(mark, false) {
-                Stop::Stays | Stop::Passed => from = mark + 1,
-                Stop::Escape(value, end) => {
-                    return self.spaced_to(mark, Ahead::Escape(value, end));
-                }
-                Stop::End => return self.spaced_to(mark, Ahead::End),
-            }
-        }
-    }
-
-    /// Skips whole blocks without a byte from `#` to `%` from a place on, if the last block was read to its end, until the
-    /// stretch is long. Returns the place after them. If a block with such a byte comes there, it is now the last block.
-    #[inline(always)]
-    fn skip_plain(&mut self, from: usize) -> usize
-        requires looking { Looking self.old.source self.old.block from 0 }
-        requires after { self.old.place ≤ from }
-        ensures looking { Looking self.new.source self.new.block result 0 }
-        ensures on { LooksOn self.old.source self.new.source }
-        ensures spans { Spans (text_of self.old) from result }
-        ensures stays { (self.new.place ≡ self.old.place) × (self.new.ahead ≡ self.old.ahead) }
-    {
-        let mut end = from;
-        while end >= self.block.seen
-            && self.source.len() - end >= BLOCK
-            && end - self.place < LONG
-        {
-            let bytes = self.source.look_bytes(end);
-            if may_stop(bytes) {
-                self.block = Block {
-                    base: end,
-                    seen: end + BLOCK,
-                    marks: marks_of(bytes, false),
-                };
-                return end;
-            }
-            end += BLOCK;
-            self.block = Block {
-                base: end,
-                seen: end,
-                marks: 0,
-            };
-        }
-        end
-    }
-
-    /// Returns whether a part of the last block is left from a place on, and has no mark.
-    #[inline(always)]
-    fn is_clear(&self, from: usize) -> bool
-        requires looking { Looking self.now.source self.now.block from 0 }
-        ensures looking { result ≡ true → Looking self.now.source self.now.block self.now.block.seen 0 }
-        ensures further { result ≡ true → from < self.now.block.seen }
-        ensures clear { result ≡ true → IsClear (text_of self.now) from self.now.block.seen }
-    {
-        from < self.block.seen && self.block.mark_from(&self.source, from).is_none()
-    }
-
-    /// The stretch from the place up to another one, of which something is known, if it is not empty. The walk goes on there.
-    #[inline(always)]
-    fn spaced_to(&mut self, end: usize, ahead: Ahead) -> Option<&'a [u8]>
-        requires { Spans (text_of self.old) self.old.place end }
-        ensures walk { self.new ≡ record self.old { place = end; ahead = ahead } }
-        ensures gives { GivesSpaced (walk_of self.old) result (walk_of self.new) }
-    {
-        let start = self.place;
-        self.place = end;
-        self.ahead = ahead;
-        if start == end {
-            return None;
-        }
-        Some(self.source.cut(start, end))
-    }
-
     /// The next bytes: a long stretch of the text, or shorter ones and the values of escapes, gathered in a buffer.
     #[inline(always)]
     pub(super) fn next_bytes<'r>(&mut self, room: &'r mut [u8; BUFFER_LEN]) -> Option<&'r [u8]>
     where
         'a: 'r,
         requires { Knows self.old }
-        ensures gives { GivesBytes false (walk_of self.old) result (walk_of self.new) }
+        ensures gives { GivesBytes (walk_of self.old) result (walk_of self.new) }
         ensures knows { Knows self.new }
     {
         let len = self.gather(room);
@@ -376,7 +278,7 @@ impl<'a> Cursor<'a> {
 
     /// Returns whether the body ends at the place.
     #[inline(always)]
-    fn is_over(&mut self) -> bool
+    pub(super) fn is_over(&mut self) -> bool
         requires gathering { Gathering self.old }
         ensures gathering { Gathering self.new }
         ensures source { self.new.source ≡ self.old.source }

@@ -1,8 +1,8 @@
 //! The alphabet of base64 (RFC 4648, section 4): which bytes are symbols, and the bytes of their groups, byte by byte and
 //! in rows of sixteen bytes.
 
-ghost use Rattle.std.specs.Prelude.{◌≡◌, IsTrue, length, map, not};
-ghost use Rattle.std.specs.List.{list_all};
+ghost use Rattle.std.specs.Prelude.{◌≡◌, ◌≤◌, IsTrue, length, map, not};
+ghost use Rattle.std.specs.List.{list_all, prefix_len};
 ghost use Rattle.std.specs.Simd.Lanes.{mask_l};
 ghost use Rattle.data_url.specs.Base64.{group_bytes, group_number, is_symbol, symbol_value};
 ghost use Rattle.data_url.specs.Steps.{Groups.{is_symbol_or_space}, Lanes.{DecodesFront, numbers, value_of}};
@@ -74,6 +74,15 @@ pub(crate) fn others(bytes: u8x16) -> u64
     ensures { result ≡ mask_l (map (λ b. not (is_symbol b)) bytes) }
 {
     marks(SYMBOLS, bytes)
+}
+
+/// Returns how many symbols a row begins with.
+#[inline(always)]
+pub(crate) fn symbols_ahead(bytes: u8x16) -> usize
+    ensures few { result ≤ 16 }
+    ensures starts { result ≡ prefix_len is_symbol bytes }
+{
+    (others(bytes) as u16).trailing_zeros() as usize
 }
 
 /// Whether all bytes of a row are symbols.

@@ -1,6 +1,6 @@
 //! Blocks of 64 bytes of a text of base64 (RFC 4648, section 4), as four rows of sixteen.
 
-ghost use Rattle.std.specs.Prelude.{◌≡◌, ◌*◌, ◌+◌, IsTrue, ◌≤◌, ◌++◌, drop, length, map, not, take};
+ghost use Rattle.std.specs.Prelude.{◌≡◌, IsTrue, ◌≤◌, length, map, take};
 ghost use Rattle.std.specs.List.{list_all};
 ghost use Rattle.std.specs.Simd.Lanes.{mask_l};
 ghost use Rattle.data_url.specs.Base64.{groups, is_symbol, symbol_value};
@@ -18,20 +18,6 @@ pub(crate) fn is_whole(text: &[u8]) -> bool
     let upper = others(row(text, 0)) | others(row(text, 16));
     let lower = others(row(text, 32)) | others(row(text, 48));
     upper | lower == 0
-}
-
-/// Returns how many whole groups of symbols a row begins with, up to three. The most frequent numbers come first.
-#[inline(always)]
-pub(crate) fn groups_ahead(bytes: u8x16) -> usize
-    ensures few { result ≤ 3 }
-    ensures symbols { IsTrue (list_all is_symbol (take (4 * result) bytes)) }
-{
-    match others(bytes) {
-        mask if mask % 16 != 0 => 0,
-        mask if mask % 4096 == 0 => 3,
-        mask if mask % 256 == 0 => 2,
-        _ => 1,
-    }
 }
 
 /// The bytes of the sixteen groups of the first 64 symbols.

@@ -1,11 +1,9 @@
 //! The bytes of whole groups of a text of base64 (RFC 4648, section 4) that the closure was not yet called with.
 
 ghost use Rattle.std.specs.Prelude.{◌≡◌, ◌%◌, ◌+◌, ◌≤◌, ◌<◌, ◌++◌, [], drop, length, take};
-ghost use Rattle.std.specs.{Char.{is_ascii_whitespace}, List.{prefix_len}};
 
-use super::alphabet::{decode_row, group_of, is_of_symbols, is_symbol};
-use super::blocks::groups_ahead;
-use super::units::{decode_unit, pack_unit};
+use super::alphabet::{decode_row, group_of, is_of_symbols, is_symbol, symbols_ahead};
+use super::gaps::{before_partial, decode_unit, pack_rows, row_over_gap, spaces_ahead};
 use crate::classes::lanes::{put, row};
 
 /// How many bytes of groups are held before the closure is called with them: those of 64 groups. With one piece, 16
@@ -20,22 +18,6 @@ pub(crate) struct HeldGroups {
     ghost within: { len < 204 },
     ghost whole: { len % 3 ≡ 0 },
     ghost sized: { length bytes ≡ 224 },
-}
-
-/// Returns how many bytes of white space a text begins with. The most frequent ends of lines come first, and then
-/// a newline before a space.
-#[inline(always)]
-fn spaces_ahead(text: &[u8]) -> usize
-    requires { 3 ≤ length text.now }
-    ensures within { result ≤ length text.now }
-    ensures spaces { result ≡ prefix_len is_ascii_whitespace text.now }
-{
-    match (text[0], text[1]) {
-        (b'\n', second) if second > b' ' => 1,
-        (b'\r', b'\n') if text[2] > b' ' => 2,
-        (b'\n', b' ') => text.len() - text[2..].trim_ascii_start().len(),
-        _ => text.len() - text.trim_ascii_start().len(),
-    }
 }
 
 impl HeldGroups {
@@ -109,8 +91,8 @@ impl HeldGroups {
         4
     }
 
-    /// Adds whole groups that a text begins with, as long as there is a row of sixteen bytes. White space after the
-    /// groups of a row is skipped. Returns how many bytes of the text these take.
+    /// Adds the groups of rows of sixteen symbols that a text begins with, until 64 groups are held. A row may have white
+    /// space in one place. Returns how many bytes of the text the rows take.
     #[inline(never)]
     fn fill_rows(&mut self, text: &[u8]) -> usize
         requires room { self.old.len < 192 }
@@ -120,23 +102,30 @@ impl HeldGroups {
         let rows_end = text.len().saturating_sub(15);
         let mut len = self.len;
         // One byte before the place where 64 groups are held: 85 / 64 is a little less than 4 / 3.
-        let mut full_at = (FULL - len) * 85 / 64;
-        let mut end = rows_end.min(full_at);
+        let mut end = rows_end.min((FULL - len) * 85 / 64);
         let mut at = 0;
         while at < end {
             let row = row(text, at);
-            let is_clean = is_of_symbols(row);
-            put(&mut self.bytes, len, decode_row(row));
-            if is_clean {
+            if is_of_symbols(row) {
+                put(&mut self.bytes, len, decode_row(row));
                 len += 12;
                 at += 16;
+            } else if symbols_ahead(row) == 12 {
+                let spaces = spaces_ahead(&text[at + 12..]);
+                put(&mut self.bytes, len, decode_row(row));
+                len += 9;
+                at += 12 + spaces;
+                end = rows_end.min(end + spaces);
             } else {
-                let ahead = groups_ahead(row);
-                let spaces = spaces_ahead(&text[at + 4 * ahead..]);
-                len += 3 * ahead;
-                at += 4 * ahead + spaces;
-                full_at += spaces;
-                end = if spaces > 0 { rows_end.min(full_at) } else { 0 };
+                let Some(found) = row_over_gap(&text[at..]) else {
+                    self.len = len;
+                    return at;
+                };
+                let symbols = found.0;
+                put(&mut self.bytes, len, decode_row(symbols));
+                len += 12;
+                at += 16 + found.1;
+                end = rows_end.min(end + found.1);
             }
         }
         self.len = len;
@@ -152,7 +141,8 @@ impl HeldGroups {
         ensures fills { Fills (held_bytes self.old) (take result text.now) (held_bytes self.new) }
     {
         let mut symbols = [0; 288];
-        let (have, taken) = pack_unit(text, &mut symbols, (FULL - self.len) / 3 * 4);
+        let (have, at) = pack_rows(text, &mut symbols, (FULL - self.len) / 3 * 4);
+        let (have, taken) = before_partial(text, have, at);
         decode_unit(&symbols, have, &mut self.bytes, self.len);
         self.len += have / 4 * 3;
         taken

@@ -1,4 +1,4 @@
-//! Base64 in lines. A decoder is fed the first line, and then stretches of at least 4,096 bytes, with their newlines.
+//! Base64 in lines. A decoder is fed stretches of some 4,000 bytes, with their newlines.
 
 use super::recorder::Source;
 use super::urls::{assert_body, assert_whole_body};
@@ -38,7 +38,7 @@ const PARTS: [[&str; 2]; 7] = [
 ];
 
 /// Returns a part of a text.
-fn part_of(text: &str, start: usize, end: usize) -> &str {
+pub fn part_of(text: &str, start: usize, end: usize) -> &str {
     text.get(start..end).unwrap_or("")
 }
 

@@ -1,102 +1,103 @@
-use Rattle.std.proofs.Common.{◌*◌, ◌+◌, ◌-◌, ◌∙◌, ◌≡◌, ap, arith, drop, drop-drop, length, length-drop, refl, sym}
-use Rattle.std.proofs.Common.{take_all}
+use Rattle.std.proofs.Common.{◌+◌, ◌-◌, ◌∙◌, ◌≡◌, ap, arith, drop, drop-drop, length, length-drop, refl, sym, take_all}
 use Rattle.std.{proofs.lemmas.List.{take_rest}, specs.{Char.{is_ascii_whitespace}, List.{list_all, prefix_len}}}
 use Rattle.data_url.specs.Base64.{is_symbol}
-use Rattle.data_url.proofs.forgiving_base64.Groups.{leaves_all, leaves_read, row_leaves_at, row_long, spaces_front}
+use Rattle.data_url.proofs.forgiving_base64.Groups.{leaves_all, leaves_read, row_leaves, row_leaves_at, row_long}
+use Rattle.data_url.proofs.forgiving_base64.{Groups.{prefix_passes}}
 use Rattle.data_url.proofs.forgiving_base64.held.HeldGroups.fill_rows.Goals as goal
 
 pub loop-at-init : goal.loop-at-init
-loop-at-init c =
-    let ends = c.min-end.ensures in
-    record {
-      within = omega arith;
-      few = omega (arith, c.requires.room);
-      whole = c.args.self.now.whole;
-      full = omega (arith, c.requires.room, c.args.self.now.whole);
-      ends = (omega (arith, ends, c.saturating_sub-rows_end.ensures), omega (arith, ends));
-      leaves = leaves_all _ _;
-    }
+loop-at-init c = record {
+  within = omega arith;
+  few = omega (arith, c.requires.room);
+  whole = c.args.self.now.whole;
+  full = omega (arith, c.requires.room, c.args.self.now.whole, c.min-end.ensures);
+  rows = omega (arith, c.min-end.ensures, c.saturating_sub-rows_end.ensures);
+  leaves = leaves_all _ _;
+}
 
-pub loop-at-preserved-then-is_clean : goal.loop-at-preserved-then-is_clean
-loop-at-preserved-then-is_clean c =
+pub loop-at-preserved-then-is_of_symbols : goal.loop-at-preserved-then-is_of_symbols
+loop-at-preserved-then-is_of_symbols c =
     let l = c.loop-at in
+    let i = l.invariant in
     let text = c.args.text.now in
     let row = c.row-row.result in
-    let long = row_long (drop l.at text) c.row-row.ensures (omega (arith, length-drop l.at text, l.invariant.ends.0)) in
-    let all = sym c.is_of_symbols-is_clean.ensures ∙ c.if-is_clean.true in
+    let long = row_long (drop l.at text) c.row-row.ensures (omega (arith, length-drop l.at text, i.rows)) in
+    let all = sym c.is_of_symbols.ensures ∙ c.if-is_of_symbols.true in
     record {
-      within = omega (arith, l.invariant.ends.0);
-      few = omega arith;
-      whole = omega (arith, l.invariant.whole);
-      full = omega (arith, l.invariant.full);
-      ends = l.invariant.ends;
-      leaves = row_leaves_at text l.self.bytes _ _ row l.at l.len 4 0 l.invariant.leaves (omega (arith, l.self.sized))
-          c.put.ensures c.decode_row.ensures.bytes (omega (arith, l.invariant.ends.0)) c.row-row.ensures (omega arith)
+      within = omega (arith, i.rows);
+      few = omega (arith, i.full);
+      whole = omega (arith, i.whole);
+      full = omega (arith, i.full);
+      rows = i.rows;
+      leaves = row_leaves_at text l.self.bytes _ _ row l.at l.len 4 0 i.leaves (omega (arith, l.self.sized))
+          c.put.ensures c.decode_row.ensures.bytes (omega (arith, i.rows)) c.row-row.ensures (omega arith)
           (ap (list_all is_symbol) (take_all 16 row (omega (arith, long))) ∙ all) refl;
     }
 
-pub loop-at-preserved-then-spaces-gt0 : goal.loop-at-preserved-then-spaces-gt0
-loop-at-preserved-then-spaces-gt0 c =
+pub loop-at-preserved-then-symbols_ahead-eq12 : goal.loop-at-preserved-then-symbols_ahead-eq12
+loop-at-preserved-then-symbols_ahead-eq12 c =
     let l = c.loop-at in
+    let i = l.invariant in
     let text = c.args.text.now in
-    let m = c.groups_ahead-ahead.result in
-    let ahead = c.groups_ahead-ahead.ensures in
-    let k = c.spaces_ahead-spaces.result in
+    let row = c.row-row.result in
+    let symbols : 12 ≡ prefix_len is_symbol row = sym c.if-symbols_ahead-eq12.true ∙ c.symbols_ahead.ensures.starts in
     let spaces = c.spaces_ahead-spaces.ensures in
-    let after = drop (4 * m) (drop l.at text) in
-    let front : k ≡ prefix_len is_ascii_whitespace after = spaces.spaces
-    ∙ ap (prefix_len is_ascii_whitespace) (take_rest text (l.at + 4 * m) ∙ sym (drop-drop (4 * m) l.at text)) in
-    let ends = c.min-end-then-spaces-gt0.ensures in
+    let after = drop 12 (drop l.at text) in
+    let front : c.spaces_ahead-spaces.result ≡ prefix_len is_ascii_whitespace after = spaces.spaces
+    ∙ ap (prefix_len is_ascii_whitespace) (take_rest text (l.at + 12) ∙ sym (drop-drop 12 l.at text)) in
+    let ends = c.min-end-then-symbols_ahead-eq12.ensures in
     record {
       within = omega (
         arith,
+        i.rows,
         spaces.within,
-        ap length (take_rest text (l.at + 4 * m)),
-        length-drop (l.at + 4 * m) text,
-        ahead.few,
-        l.invariant.ends.0,
+        ap length (take_rest text (l.at + 12)),
+        length-drop (l.at + 12) text,
       );
-      few = omega arith;
-      whole = omega (arith, l.invariant.whole);
-      full = omega (arith, l.invariant.full);
-      ends = (omega (arith, ends, c.saturating_sub-rows_end.ensures), omega (arith, ends));
-      leaves = row_leaves_at text l.self.bytes _ _ _ l.at l.len m k l.invariant.leaves (omega (arith, l.self.sized))
-          c.put.ensures c.decode_row.ensures.bytes (omega (arith, l.invariant.ends.0)) c.row-row.ensures
-          (omega (arith, ahead.few)) ahead.symbols (rw front (spaces_front after));
+      few = omega (arith, i.full);
+      whole = omega (arith, i.whole);
+      full = omega (arith, i.full, ends);
+      rows = omega (arith, ends, c.saturating_sub-rows_end.ensures);
+      leaves = row_leaves_at text l.self.bytes _ _ row l.at l.len 3 _ i.leaves (omega (arith, l.self.sized))
+          c.put-then-symbols_ahead-eq12.ensures c.decode_row-then-symbols_ahead-eq12.ensures.bytes
+          (omega (arith, i.rows)) c.row-row.ensures (omega arith) (rw symbols (prefix_passes is_symbol row))
+          (rw front (prefix_passes is_ascii_whitespace after));
     }
 
 pub loop-at-preserved : goal.loop-at-preserved
 loop-at-preserved c =
     let l = c.loop-at in
+    let i = l.invariant in
     let text = c.args.text.now in
-    let m = c.groups_ahead-ahead.result in
-    let ahead = c.groups_ahead-ahead.ensures in
-    let k = c.spaces_ahead-spaces.result in
-    let spaces = c.spaces_ahead-spaces.ensures in
-    let after = drop (4 * m) (drop l.at text) in
-    let front : k ≡ prefix_len is_ascii_whitespace after = spaces.spaces
-    ∙ ap (prefix_len is_ascii_whitespace) (take_rest text (l.at + 4 * m) ∙ sym (drop-drop (4 * m) l.at text)) in
+    let rest = drop l.at text in
+    let t = 16 + c.in-Some.found.1 in
+    let ends = c.min-end-else-symbols_ahead-eq12.ensures in
+    let is = rw (take_rest text l.at) at c.in-Some.ensures in
+    let whole = take_all 16 c.in-Some.found.0 (omega (arith, is.long)) in
+    let leaves = row_leaves l.self.bytes c.put-else-symbols_ahead-eq12.new.bytes _ c.in-Some.found.0 l.len 4 t i.leaves
+    (omega (arith, l.self.sized)) c.put-else-symbols_ahead-eq12.ensures
+    c.decode_row-else-symbols_ahead-eq12.ensures.bytes (omega arith) is.long (is.spaced, is.symbols_are ∙ sym whole) in
     record {
-      within = omega (
-        arith,
-        spaces.within,
-        ap length (take_rest text (l.at + 4 * m)),
-        length-drop (l.at + 4 * m) text,
-        ahead.few,
-        l.invariant.ends.0,
-      );
-      few = omega arith;
-      whole = omega (arith, l.invariant.whole);
-      full = omega (arith, l.invariant.full);
-      ends = (omega arith, omega arith);
-      leaves = row_leaves_at text l.self.bytes _ _ _ l.at l.len m k l.invariant.leaves (omega (arith, l.self.sized))
-          c.put.ensures c.decode_row.ensures.bytes (omega (arith, l.invariant.ends.0)) c.row-row.ensures
-          (omega (arith, ahead.few)) ahead.symbols (rw front (spaces_front after));
+      within = omega (arith, i.rows, is.within, length-drop l.at text);
+      few = omega (arith, i.full);
+      whole = omega (arith, i.whole);
+      full = omega (arith, i.full, ends);
+      rows = omega (arith, ends, c.saturating_sub-rows_end.ensures);
+      leaves = rw (sym (drop-drop t l.at text) ∙ sym (take_rest rest t)) leaves;
     }
+
+pub returns-in_default : goal.returns-in_default
+returns-in_default c =
+    let l = c.loop-at in
+    let text = c.args.text.now in
+    let read : length text - length (drop l.at text) ≡ l.at =
+    omega (arith, length-drop l.at text, l.invariant.within) in
+    record { within = l.invariant.within; fills = rw (sym read) (leaves_read l.invariant.leaves).1 }
 
 pub returns-clause-fills : goal.returns-clause-fills
 returns-clause-fills c =
     let l = c.loop-at in
     let text = c.args.text.now in
-    let read : length text - length (drop l.at text) ≡ l.at = omega (arith, length-drop l.at text, l.invariant.within) in
+    let read : length text - length (drop l.at text) ≡ l.at =
+    omega (arith, length-drop l.at text, l.invariant.within) in
     rw (sym read) (leaves_read l.invariant.leaves).1

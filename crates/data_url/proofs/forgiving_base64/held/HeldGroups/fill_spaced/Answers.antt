@@ -1,11 +1,16 @@
 use Rattle.std.proofs.Common.{arith}
-use Rattle.data_url.proofs.forgiving_base64.Packed.{unit_fills}
+use Rattle.data_url.proofs.forgiving_base64.Packed.{spaced_before, symbols_before, unit_fills}
 use Rattle.data_url.proofs.forgiving_base64.held.HeldGroups.fill_spaced.Goals as goal
 
 pub returns-clause-fills : goal.returns-clause-fills
 returns-clause-fills c =
+    let text = c.args.text.now in
     let old = c.args.self.now in
-    let unit = c.pack_unit-have in
-    let sizes = unit.ensures.sizes in
-    unit_fills c.args.text.now old.bytes c.decode_unit.new.bytes unit.new.symbols old.len unit.result.0 unit.result.1
-    c.decode_unit.ensures sizes.1.0 (omega (arith, sizes.0, unit.auto.symbols)) unit.ensures.spaced unit.ensures.symbols
+    let rows = c.pack_rows-have in
+    let back = c.before_partial-have in
+    let sizes = back.ensures.sizes in
+    unit_fills text old.bytes c.decode_unit.new.bytes rows.new.symbols old.len back.result.0 back.result.1
+    c.decode_unit.ensures sizes.0 (omega (arith, rows.ensures.sizes.0, sizes.1.0, rows.auto.symbols))
+    (spaced_before text rows.result.1 back.result.1 rows.ensures.spaced sizes.1.1)
+    (symbols_before text rows.new.symbols rows.result.0 rows.result.1 back.result.0 back.result.1 rows.ensures.symbols
+    sizes.1.1 sizes.1.0 back.ensures.symbols)

@@ -1,0 +1,35 @@
+use Rattle.std.proofs.Common.{arith, drop, length-drop, refl, sym, ◌∙◌}
+use Rattle.data_url.proofs.forgiving_base64.Groups.{row_long}
+use Rattle.data_url.proofs.forgiving_base64.Packed.{others_small, row_spaced, row_symbols}
+use Rattle.data_url.proofs.forgiving_base64.gaps.pack_rows.Goals as goal
+
+pub loop-have-init : goal.loop-have-init
+loop-have-init c = record {
+  few = omega arith;
+  within = omega arith;
+  room = c.requires;
+  spaced = refl;
+  packed = refl;
+}
+
+pub pack_row-have-requires-clause-bits : goal.pack_row-have-requires-clause-bits
+pack_row-have-requires-clause-bits c =
+    let rest = drop c.loop-have.at c.args.text.now in
+    let long = row_long rest c.row-row.ensures (omega (arith, length-drop c.loop-have.at c.args.text.now)) in
+    others_small c.row-row.result long c.others.ensures
+
+pub loop-have-preserved : goal.loop-have-preserved
+loop-have-preserved c =
+    let i = c.loop-have.invariant in
+    let text = c.args.text.now in
+    let row = c.row-row in
+    let packed = c.pack_row-have.ensures in
+    record {
+      few = omega (arith, packed.few);
+      within = omega arith;
+      room = omega (arith, i.room, c.pack_row-have.auto.bytes);
+      spaced = row_spaced text row.result c.loop-have.at i.spaced row.ensures
+          (sym c.is_spaced.ensures ∙ c.if-not-is_spaced.false);
+      packed = row_symbols text c.loop-have.symbols c.pack_row-have.new.bytes row.result c.loop-have.have c.loop-have.at
+          c.pack_row-have.result i.packed row.ensures c.others.ensures packed.kept;
+    }

@@ -1,0 +1,106 @@
+//! White space between the symbols of base64 (Infra Standard, forgiving-base64 decode, step 1): gaps between two symbols of a
+//! row, and units, the symbols of several rows without the white space between them.
+
+ghost use Rattle.std.specs.Prelude.{◌≡◌, ◌*◌, ◌+◌, ◌%◌, ◌≤◌, ◌++◌, IfSome, IsTrue, filter, length, map, take, ℕ};
+ghost use Rattle.std.specs.{Char.{is_ascii_whitespace}, List.{list_all, prefix_len}};
+ghost use Rattle.data_url.specs.Base64.{groups, is_symbol, symbol_value};
+ghost use Rattle.data_url.specs.Steps.Groups.{IsOverGap, is_symbol_or_space};
+
+use super::alphabet::{decode_row, is_of_symbols, is_spaced, is_symbol, others, symbols_ahead};
+use crate::classes::lanes::{put, row, spliced};
+use crate::packing::pack_row;
+use std::simd::prelude::*;
+
+/// Returns how many bytes of white space a text begins with. The most frequent ends of lines come first, and then a newline
+/// before a space.
+#[inline(always)]
+pub(crate) fn spaces_ahead(text: &[u8]) -> usize
+    requires { 3 ≤ length text.now }
+    ensures within { result ≤ length text.now }
+    ensures spaces { result ≡ prefix_len is_ascii_whitespace text.now }
+{
+    match (text[0], text[1]) {
+        (b'\n', second) if second > b' ' => 1,
+        (b'\r', b'\n') if text[2] > b' ' => 2,
+        (b'\n', b' ') => text.len() - text[2..].trim_ascii_start().len(),
+        _ => text.len() - text.trim_ascii_start().len(),
+    }
+}
+
+/// Returns the first sixteen symbols of a text that has a gap before the last of them, and the length of the gap. Returns None
+/// if there are several gaps or another byte, or if the text ends too early.
+#[inline(always)]
+pub(crate) fn row_over_gap(text: &[u8]) -> Option<(u8x16, usize)>
+    ensures { IfSome result (λ r. IsOverGap text.now r.0 r.1) }
+{
+    if text.len() < 19 {
+        return None;
+    }
+    let first = row(text, 0);
+    let before = symbols_ahead(first);
+    let spaces = spaces_ahead(&text[before..]);
+    if text.len() - 16 < spaces {
+        return None;
+    }
+    let symbols = spliced(first, row(text, spaces), before);
+    if !is_of_symbols(symbols) {
+        return None;
+    }
+    Some((symbols, spaces))
+}
+
+/// Packs the symbols of the rows that a text begins with, as long as these have only symbols and white space, up to the
+/// row in which a number of symbols is reached. Returns how many symbols there are, and the length of the rows.
+#[inline(always)]
+pub(crate) fn pack_rows(text: &[u8], symbols: &mut [u8], enough: usize) -> (usize, usize)
+    requires { enough + 32 ≤ length symbols.old }
+    ensures sizes { (result.0 ≤ enough + 15) × (result.1 ≤ length text.now) }
+    ensures spaced { IsTrue (list_all is_symbol_or_space (take result.1 text.now)) }
+    ensures symbols { filter is_symbol (take result.1 text.now) ≡ take result.0 symbols.new }
+{
+    let mut have = 0;
+    let mut at = 0;
+    while have < enough && text.len() - at >= 16 {
+        let row = row(text, at);
+        if !is_spaced(row) {
+            break;
+        }
+        have = pack_row(row, others(row) as usize, symbols, have);
+        at += 16;
+    }
+    (have, at)
+}
+
+/// Goes back in a text to where the symbols before a place are whole groups. Returns how many symbols these are, and the
+/// place.
+#[inline(always)]
+pub(crate) fn before_partial(text: &[u8], have: usize, at: usize) -> (usize, usize)
+    requires within { at ≤ length text.now }
+    requires symbols { have ≡ length (filter is_symbol (take at text.now)) }
+    ensures sizes { (result.0 % 4 ≡ 0) × ((result.0 ≤ have) × (result.1 ≤ at)) }
+    ensures symbols { result.0 ≡ length (filter is_symbol (take result.1 text.now)) }
+{
+    let mut have = have;
+    let mut at = at;
+    while have % 4 != 0 {
+        at -= 1;
+        if is_symbol(text[at]) {
+            have -= 1;
+        }
+    }
+    (have, at)
+}
+
+/// Decodes the groups of a number of symbols, and writes their bytes at a place. Up to 16 bytes after these may be
+/// overwritten.
+#[inline(always)]
+pub(crate) fn decode_unit(symbols: &[u8], count: usize, bytes: &mut [u8], at: usize)
+    requires long { count + 16 ≤ length symbols.now }
+    requires room { 4 * at + 3 * count + 64 ≤ 4 * length bytes.old }
+    ensures { (m : ℕ) → 4 * m ≤ count → IsTrue (list_all is_symbol (take (4 * m) symbols.now))
+        → take (at + 3 * m) bytes.new ≡ take at bytes.old ++ groups (map symbol_value (take (4 * m) symbols.now)) }
+{
+    for index in 0..(count + 15) / 16 {
+        put(bytes, at + 12 * index, decode_row(row(symbols, 16 * index)));
+    }
+}
