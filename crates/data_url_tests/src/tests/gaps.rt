@@ -55,7 +55,7 @@ fn text_of(
     format!(in alloc; "{front}{one}{middle}{other}{back}")
 }
 
-/// Returns the bytes of so many symbols: of all of them, or of whole groups if there is a message.
+/// Returns the bytes that the first `count` symbols encode, or that their whole groups encode if there is a message.
 fn bytes_of(count: usize, message: &str) -> &[u8] {
     let len = if message.is_empty() {
         count.saturating_mul(3) / 4
@@ -65,7 +65,7 @@ fn bytes_of(count: usize, message: &str) -> &[u8] {
     part_of(SYMBOLS[1], 0, len).as_bytes()
 }
 
-/// Asserts that a text in parts decodes to the bytes of so many symbols, and its message.
+/// Asserts that the parts decode to the bytes of the first `count` symbols, and end with the message, if any.
 fn assert_parts(
     rt: &impl Abort,
     alloc: Global,
