@@ -10,6 +10,12 @@ use Rattle.std.{proofs.lemmas.Bool.{agree_below, agree_below_at, cases_lt, false
 use Rattle.std.{proofs.Common.{bit_or, eqb, ◌&&◌}, proofs.Math.Bool.{and_assoc}, specs.List.{list_all}}
 use Rattle.data_url.specs.Steps.Classes.{AreOf, is_marked, looked_up}
 use Rattle.data_url.specs.declared.classes.TheConstants.{CLASSES}
+use Rattle.data_url.specs.declared.classes.lanes.TheConstants.{PLACES}
+use Rattle.std.proofs.Common.{get_or, get_or-take, ◌-◌, ◌*◌, ◌/◌, ltb, subst, ◌++◌, ext_get_or, replicate, length-append}
+use Rattle.std.proofs.lemmas.List.{get_or-drop, get_or_append_left, get_or-append_right, get_or-replicate, length-replicate}
+use Rattle.std.proofs.lemmas.Simd.{Each1-from_get_or, SwzOk, SwzOk-from_Each1, get_or-swz_l, length-swz_l, swz_l}
+use mir.Val.{zeroes}
+use lib.Dec.{T}
 use Rattle.data_url.proofs.forgiving_base64.Vectors.{differs, or_zero}
 use Rattle.std.proofs.Common.{◌++◌, nat_lt, suc, zero}
 use Rattle.std.specs.List.{range_with_len}
@@ -60,6 +66,59 @@ pub sel_before : (xs ys : List ℕ) (p : ℕ) → length xs ≡ 16 → length ys
     → sel_l (are_before p 0 16) xs ys ≡ take p xs ++ drop p ys
 sel_before xs ys p e h l =
     let s = sel_from p 0 p xs ys (e ∙ sym h) (omega arith) in rw e at s
+
+-- the last items of a row and then zeros
+
+-- the places that pick the items of a row from item m on, and then nothing
+abbrev places : ℕ → List ℕ
+places m = take 16 (drop m PLACES)
+
+module _ (v : List ℕ) (m : ℕ) (long : length v ≡ 16) (few : m ≤ 16) where
+  -- there are sixteen places
+  places_long : length (places m) ≡ 16
+  places_long = length-take-le 16 (drop m PLACES) (omega (arith, length-drop m PLACES, few))
+
+  -- a place is that of item m + i
+  place_at : (i : ℕ) → i < 16 → get_or (places m) i 0 ≡ get_or PLACES (m + i) 0
+  place_at i l = get_or-take 16 (drop m PLACES) i 0 l ∙ get_or-drop m PLACES i 0
+
+  -- picking them is allowed
+  pub picks_ok : SwzOk w8 16 16 0 (places m)
+  picks_ok =
+      let ok : ℕ → Bool = λ j. zeroes 16 w8 j || ltb j 16 in
+      SwzOk-from_Each1 w8 16 1 16 0 (places m) refl (omega (arith, places_long))
+      (Each1-from_get_or (λ j. T (ok j)) (places m) 0 (λ i l.
+      let l : i < 16 = omega (arith, l, places_long) in
+      let e : ok (get_or PLACES (m + i) 0) ≡ true =
+      agree_below_at (λ k. ok (get_or PLACES k 0)) (λ _. true) 32 (m + i) refl (omega (arith, few)) in
+      subst T (sym (ap ok (place_at i l) ∙ e)) tt))
+
+  -- what is picked
+  pub picks_last : swz_l w8 16 v 0 (places m) ≡ drop m v ++ replicate m 0
+  picks_last =
+      let size = length-swz_l w8 16 v 0 (places m) in
+      let back : length (drop m v) ≡ 16 - m = omega (arith, length-drop m v, long) in
+      let sum = length-append (drop m v) (replicate m 0) in
+      ext_get_or 0 _ _ (omega (arith, size, places_long, back, sum, length-replicate {A = ℕ} m 0, few)) (λ i h.
+      let l : i < 16 = omega (arith, size, places_long, h) in
+      let at = get_or-swz_l w8 16 v 0 (places m) i (omega (arith, places_long, l)) in
+      let zero : 16 * ((0 + i) / 16) ≡ 0 = omega (arith, l) in
+      ⊎_elim
+      (λ (low : m + i < 16).
+      let k : get_or PLACES (m + i) 0 ≡ m + i =
+      eqb-true _ _ (agree_below_at (λ k. eqb (get_or PLACES k 0) k) (λ _. true) 16 (m + i) refl low) in
+      let picked = place_at i l ∙ k in
+      let stays = agree_below_at (λ k. zeroes 16 w8 k) (λ _. false) 16 (m + i) refl low in
+      let none : 0 + (m + i) ≡ m + i = omega arith in
+      let here = rw (picked, stays, zero, none) at at in
+      here ∙ sym (get_or_append_left (drop m v) (replicate m 0) 0 i (omega (arith, back, low)) ∙ get_or-drop m v i 0))
+      (λ (high : 16 ≤ m + i).
+      let sum : 16 + (m + i - 16) ≡ m + i = omega (arith, high) in
+      let z : zeroes 16 w8 (get_or PLACES (m + i) 0) ≡ true =
+      ap (λ k. zeroes 16 w8 (get_or PLACES k 0)) (sym sum) ∙ agree_below_at (λ k. zeroes 16 w8 (get_or PLACES (16 + k) 0)) (λ _. true) 16 (m + i - 16) refl (omega (arith, l, few)) in
+      let here = rw (place_at i l, z) at at in
+      here ∙ sym (get_or-append_right (drop m v) (replicate m 0) (16 - m) i 0 back (omega (arith, high)) ∙ get_or-replicate m (i - (16 - m)) 0 0 (omega (arith, high, l, few))))
+      (cases_lt (m + i) 16))
 
 -- the bytes before a place are of a class
 pub record Looked (others bytes : List ℕ) (at : ℕ) : Type 0 where

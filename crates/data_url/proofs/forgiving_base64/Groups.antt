@@ -3,11 +3,11 @@ use Rattle.std.proofs.Common.{sym, get_or, take, drop, refl, ap, ap₂, arith, l
 use Rattle.std.proofs.Common.{get_or-take, take-append-drop, append-nil, take-take, take_at}
 use Rattle.std.proofs.Common.{drop-drop, length-drop}
 use Rattle.std.proofs.Common.{length-take-le, ◌∙◌, false, min, None, take-add, append_assoc, length-append, ◌/◌}
-use Rattle.std.proofs.Common.{◌≡◌, ℕ, Bool, ◌+◌, ◌*◌, ◌≤◌, true, ◌&&◌, ◌||◌, List, [], ◌∷◌, ◌++◌, map, length, ◌-◌}
+use Rattle.std.proofs.Common.{◌≡◌, ℕ, Bool, ◌+◌, ◌*◌, ◌≤◌, true, ◌&&◌, ◌||◌, List, [], ◌∷◌, ◌++◌, map, length, ◌-◌, replicate, zero, suc}
 use Rattle.std.{proofs.Math.Seq.{take-append-add}, proofs.lemmas.Bool.{and_parts}, specs.Char.{is_ascii_whitespace}}
 use Rattle.std.{proofs.lemmas.List.Elements.{filter-append}, proofs.lemmas.List.Folds.{list_all-append}}
 use Rattle.std.proofs.lemmas.List.Sums.{list_all-from_AllPass, prefix_len-le-length, prefix_len_passes}
-use Rattle.std.proofs.lemmas.List.{length-map, take_rest, map-append, length-replicate}
+use Rattle.std.proofs.lemmas.List.{length-map, take_rest, map-append, length-replicate, take-append-le}
 use Rattle.std.specs.List.{list_all, prefix_len, filter, list_any}
 use Rattle.data_url.specs.Base64.{decoded, first_fault, left_padding, left_symbols, left_text}
 use Rattle.data_url.specs.Base64.{group_bytes, group_number, groups, is_symbol, symbol_value, values, after_groups}
@@ -55,6 +55,14 @@ symbols_alone (b ∷ s) h =
 pub prefix_passes : (p : ℕ → Bool) (t : List ℕ) → list_all p (take (prefix_len p t) t) ≡ true
 prefix_passes p t =
     grind (arith, list_all-from_AllPass, length-take, get_or-take, prefix_len_passes, prefix_len-le-length)
+
+-- if the first n items pass a test, so do the first ones up to an earlier place
+pub all_before : (p : ℕ → Bool) (t : List ℕ) (n to : ℕ) → list_all p (take n t) ≡ true → to ≤ n
+    → list_all p (take to t) ≡ true
+all_before p t n to all l =
+    let whole = ap (list_all p) (take-append-drop to (take n t)) ∙ all in
+    let parts = and_parts _ _ (sym (list_all-append p (take to (take n t)) (drop to (take n t))) ∙ whole) in
+    sym (ap (list_all p) (take-take to n t l)) ∙ parts.0
 
 -- a text of white space has no symbols, and only symbols and white space
 spaces_only : (t : List ℕ) → list_all is_ascii_whitespace t ≡ true
@@ -165,15 +173,14 @@ over_gap text symbols p k few within is all spaces =
           cc (whole, filter-append is_symbol x (gap ++ y), filter-append is_symbol gap y, only.0, front, back, is);
     }
 
--- the symbols of the groups that a text begins with, and of white space after them, are those of its first row
-pub front_symbols : (row text : List ℕ) (m k : ℕ) → row ≡ take 16 text → m ≤ 4
+-- the symbols of the groups that a text begins with, and of white space after them, are those of a row that begins with them
+pub front_symbols : (row text : List ℕ) (m k : ℕ) → take (4 * m) row ≡ take (4 * m) text
     → list_all is_symbol (take (4 * m) row) ≡ true → list_all is_ascii_whitespace (take k (drop (4 * m) text)) ≡ true
     → (list_all is_symbol_or_space (take (4 * m + k) text) ≡ true)
     × (filter is_symbol (take (4 * m + k) text) ≡ take (4 * m) row)
-front_symbols row text m k is few all spaces =
+front_symbols row text m k front all spaces =
     let q = take (4 * m) text in
     let only = spaces_only (take k (drop (4 * m) text)) spaces in
-    let front : take (4 * m) row ≡ q = ap (take (4 * m)) is ∙ take-take (4 * m) 16 text (omega arith) in
     let each = sym (ap (list_all is_symbol) front) ∙ all in
     let alone : filter is_symbol q ≡ q = filter_all is_symbol q (every_list_all q each) in (
       cc (
@@ -192,16 +199,15 @@ front_symbols row text m k is few all spaces =
       ),
     )
 
--- the groups of t bytes of the rest are read, if a row that begins with their symbols was decoded and put after n bytes
-pub row_leaves : {held text rest : List ℕ} (old new bytes row : List ℕ) (n m t : ℕ)
-    → Leaves held text rest (take n old) → n + 16 ≤ length old → take (n + 16) new ≡ take n old ++ bytes
-    → DecodesFront row bytes → m ≤ 4 → length row ≡ 16
-    → (list_all is_symbol_or_space (take t rest) ≡ true) × (filter is_symbol (take t rest) ≡ take (4 * m) row)
-    → Leaves held text (take (length rest - t) (drop t rest)) (take (n + 3 * m) new)
-row_leaves {rest = rest} old new bytes row n m t before room put decodes few long are =
+-- the groups of t bytes of a text are held, if a row that begins with their symbols was decoded and put after n bytes
+row_fills : (text old new bytes row : List ℕ) (n m t : ℕ)
+    → n + 16 ≤ length old → take (n + 16) new ≡ take n old ++ bytes → DecodesFront row bytes → m ≤ 4 → length row ≡ 16
+    → (list_all is_symbol_or_space (take t text) ≡ true) × (filter is_symbol (take t text) ≡ take (4 * m) row)
+    → Fills (take n old) (take t text) (take (n + 3 * m) new)
+row_fills text old new bytes row n m t room put decodes few long are =
     let size : n + 3 * m ≡ length (take n old) + 3 * m = omega (arith, length-take-le n old (omega arith)) in
-    let each = ap (list_all is_symbol) (sym are.1) ∙ symbols_kept (take t rest) in
-    leaves_then t before (record {
+    let each = ap (list_all is_symbol) (sym are.1) ∙ symbols_kept (take t text) in
+    record {
       whole = record {
         spaced = are.0;
         whole = omega (arith, ap length are.1, length-take-le (4 * m) row (omega (arith, long)));
@@ -214,7 +220,16 @@ row_leaves {rest = rest} old new bytes row n m t before room put decodes few lon
         decodes m few each,
         are.1,
       );
-    })
+    }
+
+-- so they are read
+pub row_leaves : {held text rest : List ℕ} (old new bytes row : List ℕ) (n m t : ℕ)
+    → Leaves held text rest (take n old) → n + 16 ≤ length old → take (n + 16) new ≡ take n old ++ bytes
+    → DecodesFront row bytes → m ≤ 4 → length row ≡ 16
+    → (list_all is_symbol_or_space (take t rest) ≡ true) × (filter is_symbol (take t rest) ≡ take (4 * m) row)
+    → Leaves held text (take (length rest - t) (drop t rest)) (take (n + 3 * m) new)
+row_leaves old new bytes row n m t before room put decodes few long are =
+    leaves_then t before (row_fills _ old new bytes row n m t room put decodes few long are)
 
 -- the same, where the row begins at a place in the text, and k bytes of white space follow its m groups
 pub row_leaves_at : {held : List ℕ} (text old new bytes row : List ℕ) (at n m k : ℕ)
@@ -225,9 +240,36 @@ pub row_leaves_at : {held : List ℕ} (text old new bytes row : List ℕ) (at n 
     → Leaves held text (drop (at + (4 * m + k)) text) (take (n + 3 * m) new)
 row_leaves_at text old new bytes row at n m k before room put decodes long is few all spaces =
     let rest = drop at text in
+    let front : take (4 * m) row ≡ take (4 * m) rest =
+    ap (take (4 * m)) is ∙ take-take (4 * m) 16 rest (omega arith) in
     rw (sym (drop-drop (4 * m + k) at text) ∙ sym (take_rest rest (4 * m + k)))
     (row_leaves old new bytes row n m (4 * m + k) before room put decodes few
-    (row_long rest is (omega (arith, length-drop at text))) (front_symbols row rest m k is few all spaces))
+    (row_long rest is (omega (arith, length-drop at text))) (front_symbols row rest m k front all spaces))
+
+-- zeros are no symbols
+symbols_end : (text : List ℕ) (after : ℕ) → prefix_len is_symbol (text ++ replicate after 0) ≤ length text
+symbols_end [] zero = omega arith
+symbols_end [] (suc after) = omega arith
+symbols_end (b ∷ text) after = grind (arith, symbols_end text after)
+
+-- the groups that a text with fewer than sixteen bytes begins with are held, if it was decoded with zeros after it
+pub last_fills : (text old new bytes row : List ℕ) (n m after : ℕ) → row ≡ text ++ replicate after 0
+    → length row ≡ 16 → m ≡ prefix_len is_symbol row / 4 → n + 16 ≤ length old
+    → take (n + 16) new ≡ take n old ++ bytes → DecodesFront row bytes
+    → (4 * m ≤ length text) × Fills (take n old) (take (4 * m) text) (take (n + 3 * m) new)
+last_fills text old new bytes row n m after is long groups room put decodes =
+    let ends = symbols_end text after in
+    let size = ap (prefix_len is_symbol) is in
+    let few : 4 * m ≤ length text = omega (arith, ends, size, groups) in
+    let most = prefix_len-le-length is_symbol row in
+    let front : take (4 * m) row ≡ take (4 * m) text =
+    ap (take (4 * m)) is ∙ take-append-le (4 * m) text (replicate after 0) few in
+    let passed = prefix_passes is_symbol row in
+    let within : 4 * m ≤ prefix_len is_symbol row = omega (arith, groups) in
+    let all = all_before is_symbol row (prefix_len is_symbol row) (4 * m) passed within in
+    let k : 4 * m + 0 ≡ 4 * m = omega arith in
+    let are = front_symbols row text m 0 front all refl in
+    (few, row_fills text old new bytes row n m (4 * m) room put decodes (omega (arith, groups, most, long)) long (rw k at are))
 
 -- all that was read
 pub leaves_read : {held text rest held' : List ℕ} → Leaves held text rest held'

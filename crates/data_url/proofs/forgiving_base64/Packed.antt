@@ -15,7 +15,7 @@ use Rattle.data_url.specs.Base64.{groups, is_symbol, symbol_value}
 use Rattle.data_url.specs.Steps.Groups.{Fills, clear, is_symbol_or_space}
 use Rattle.data_url.specs.Steps.Lanes.{DecodesFront}
 use Rattle.data_url.proofs.forgiving_base64.Groups.{put_keeps, symbols_kept}
-use Rattle.data_url.proofs.forgiving_base64.Spaces.{clear_mask, spaced_front}
+use Rattle.data_url.proofs.forgiving_base64.Spaces.{clear_mask}
 use Rattle.data_url.proofs.forgiving_base64.Vectors.{groups_whole, is_other, others_mask}
 
 -- Rows that are packed
@@ -92,12 +92,6 @@ symbols_before text symbols have at n to all back few size =
     let whole = take-append-drop to (take at text) in
     let cut = take_at (filter is_symbol (take to text)) (filter is_symbol (drop to (take at text))) n (sym size) in
     cc (front, parts, whole, cut, all, take-take n have symbols few)
-
--- the bytes before an earlier place are symbols and white space
-pub spaced_before : (text : List ℕ) (at to : ℕ) → list_all is_symbol_or_space (take at text) ≡ true → to ≤ at
-    → list_all is_symbol_or_space (take to text) ≡ true
-spaced_before text at to all back =
-    sym (ap (list_all is_symbol_or_space) (take-take to at text back)) ∙ spaced_front (take at text) to all
 
 -- Decoding
 

@@ -1,13 +1,12 @@
 -- Rows of symbols with white space between them: the bits of the others, and what is left without them. For `gaps.rt`.
 use Rattle.std.proofs.Common.{List, [], ◌∷◌, ◌++◌, map, ◌≡◌, ℕ, true, false, cond, eqb}
-use Rattle.std.proofs.Common.{length, take, drop, ap, ◌+◌, ◌*◌}
-use Rattle.std.proofs.Common.{◌/◌, ◌^◌, Bool, refl, sym, ◌∙◌, arith, ◌&&◌, take-append-drop}
+use Rattle.std.proofs.Common.{length, ap, ◌+◌, ◌*◌}
+use Rattle.std.proofs.Common.{◌/◌, ◌^◌, Bool, refl, sym, ◌∙◌, arith, ◌&&◌}
 use Rattle.std.{proofs.Math.Nat.{div-div-eq-div-mul, pow-succ'}}
-use Rattle.std.proofs.lemmas.Bool.{and_parts, eqb-true, true≢false}
-use Rattle.std.proofs.lemmas.List.Folds.{list_all-append}
-use Rattle.std.specs.List.{filter, list_all}
+use Rattle.std.proofs.lemmas.Bool.{eqb-true, true≢false}
+use Rattle.std.specs.List.{filter}
 use Rattle.data_url.specs.Base64.{is_symbol}
-use Rattle.data_url.specs.Steps.Groups.{clear, is_symbol_or_space}
+use Rattle.data_url.specs.Steps.Groups.{clear}
 use Rattle.data_url.proofs.forgiving_base64.Vectors.{is_other, others_mask}
 
 -- Bits that are 0
@@ -51,10 +50,3 @@ alike_same [] [] h = refl
 alike_same [] (y ∷ ys) h = absurd (true≢false (sym h))
 alike_same (x ∷ xs) [] h = absurd (true≢false (sym h))
 alike_same (x ∷ xs) (y ∷ ys) h = grind (arith, alike_same xs ys, eqb-true x y)
-
--- all bytes up to a place are symbols and white space, if all bytes are
-pub spaced_front : (v : List ℕ) (n : ℕ) → list_all is_symbol_or_space v ≡ true
-    → list_all is_symbol_or_space (take n v) ≡ true
-spaced_front v n h =
-    let parts = sym (list_all-append is_symbol_or_space (take n v) (drop n v)) in
-    (and_parts _ _ (parts ∙ ap (list_all is_symbol_or_space) (take-append-drop n v) ∙ h)).0

@@ -1,6 +1,6 @@
 //! Rows of sixteen bytes: how they are read and written, and the classes of their bytes.
 
-ghost use Rattle.std.specs.Prelude.{◌≡◌, ◌+◌, ◌++◌, ◌≤◌, drop, length, map, not, take};
+ghost use Rattle.std.specs.Prelude.{◌≡◌, ◌+◌, ◌-◌, ◌++◌, ◌≤◌, drop, length, map, not, replicate, take};
 ghost use Rattle.std.specs.List.{list_all};
 ghost use Rattle.std.specs.Simd.Lanes.{mask_l};
 ghost use Rattle.data_url.specs.Steps.Classes.{AreOf, is_marked, looked_up};
@@ -32,8 +32,22 @@ pub(crate) fn put(bytes: &mut [u8], at: usize, row: u8x16)
     row.copy_to_slice(&mut bytes[at..]);
 }
 
-/// The places in a row.
-const PLACES: [u8; 16] = [0, 1, 2, 3, 4, 5, 6, 7, 8, 9, 10, 11, 12, 13, 14, 15];
+/// The places in a row, and then sixteen numbers that are places in no row.
+#[rattlefmt::skip]
+const PLACES: [u8; 32] = [
+    0, 1, 2, 3, 4, 5, 6, 7, 8, 9, 10, 11, 12, 13, 14, 15,
+    128, 128, 128, 128, 128, 128, 128, 128, 128, 128, 128, 128, 128, 128, 128, 128,
+];
+
+/// Returns the last bytes of a text, and then a number of zeros: sixteen bytes together.
+#[inline(always)]
+pub(crate) fn last_row(text: &[u8], zeros: usize) -> u8x16
+    requires long { 16 ≤ length text.now }
+    requires few { zeros ≤ 16 }
+    ensures { result ≡ drop (length text.now + zeros - 16) text.now ++ replicate zeros 0 }
+{
+    row(text, text.len() - 16).swizzle_dyn(row(&PLACES, zeros))
+}
 
 /// Returns the first `at` bytes of a row, and then those of another one from there on.
 #[inline(always)]
@@ -41,7 +55,7 @@ pub(crate) fn spliced(first: u8x16, second: u8x16, at: usize) -> u8x16
     requires { at ≤ 16 }
     ensures { result ≡ take at first ++ drop at second }
 {
-    u8x16::from_array(PLACES)
+    row(&PLACES, 0)
         .simd_lt(u8x16::splat(at as u8))
         .select(first, second)
 }

@@ -28,7 +28,7 @@ pub(crate) fn spaces_ahead(text: &[u8]) -> usize
 }
 
 /// Returns the first sixteen symbols of a text that has a gap before the last of them, and the length of the gap. Returns None
-/// if there are several gaps or another byte, or if the text ends too early.
+/// if there are several gaps or another byte, and if the text has fewer than 19 bytes or fewer than sixteen symbols.
 #[inline(always)]
 pub(crate) fn row_over_gap(text: &[u8]) -> Option<(u8x16, usize)>
     ensures { IfSome result (λ r. IsOverGap text.now r.0 r.1) }

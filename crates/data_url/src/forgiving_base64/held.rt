@@ -4,7 +4,7 @@ ghost use Rattle.std.specs.Prelude.{◌≡◌, ◌%◌, ◌+◌, ◌≤◌, ◌<
 
 use super::alphabet::{decode_row, group_of, is_of_symbols, is_symbol, symbols_ahead};
 use super::gaps::{before_partial, decode_unit, pack_rows, row_over_gap, spaces_ahead};
-use crate::classes::lanes::{put, row};
+use crate::classes::lanes::{last_row, put, row};
 
 /// How many bytes of groups are held before the closure is called with them: those of 64 groups. With one piece, 16
 /// groups, lines of 76 symbols take a fifth longer.
@@ -76,8 +76,11 @@ impl HeldGroups {
     {
         if text.len() >= 16 {
             let taken = self.fill_rows(text);
-            if self.len >= FULL || text.len() - taken < 16 {
+            if self.len >= FULL {
                 return taken;
+            }
+            if text.len() - taken < 16 {
+                return taken + self.fill_last(text, taken);
             }
             return taken + self.fill_spaced(&text[taken..]);
         }
@@ -130,6 +133,23 @@ impl HeldGroups {
         }
         self.len = len;
         at
+    }
+
+    /// Adds the whole groups that the last bytes of a text begin with, from a place on. These are fewer than sixteen. Returns how
+    /// many bytes the groups take.
+    #[inline(always)]
+    fn fill_last(&mut self, text: &[u8], at: usize) -> usize
+        requires long { 16 ≤ length text.now }
+        requires last { (at ≤ length text.now) × (length text.now < at + 16) }
+        requires room { self.old.len < 192 }
+        ensures within { at + result ≤ length text.now }
+        ensures fills { Fills (held_bytes self.old) (take result (drop at text.now)) (held_bytes self.new) }
+    {
+        let row = last_row(text, at + 16 - text.len());
+        let groups = symbols_ahead(row) / 4;
+        put(&mut self.bytes, self.len, decode_row(row));
+        self.len += 3 * groups;
+        4 * groups
     }
 
     /// Adds whole groups that a text begins with, without the white space between their symbols, until 64 groups are held

@@ -1,4 +1,4 @@
-//! Base64 in lines. A decoder is fed stretches of some 4,000 bytes, with their newlines.
+//! Base64 in lines. A decoder is fed the first line, and then stretches of some 4,000 bytes, with their newlines.
 
 use super::recorder::Source;
 use super::urls::{assert_body, assert_whole_body};

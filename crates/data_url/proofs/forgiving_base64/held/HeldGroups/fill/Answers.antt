@@ -11,6 +11,14 @@ returns-then-text-ge16-clause-fills c =
     rw (take-add n m text) (fills_then (take n text) (take m (drop n text)) c.fill_rows-taken.ensures.fills
     (rw (take_rest text n) at c.fill_spaced.ensures.fills))
 
+pub returns-then-text-taken-lt16-clause-fills : goal.returns-then-text-taken-lt16-clause-fills
+returns-then-text-taken-lt16-clause-fills c =
+    let text = c.args.text.now in
+    let n = c.fill_rows-taken.result in
+    let m = c.fill_last.result in
+    rw (take-add n m text) (fills_then (take n text) (take m (drop n text)) c.fill_rows-taken.ensures.fills
+    c.fill_last.ensures.fills)
+
 pub returns-then-text-lt4-clause-fills : goal.returns-then-text-lt4-clause-fills
 returns-then-text-lt4-clause-fills c = fills_nothing _
 
