@@ -111,7 +111,7 @@ impl<'a> DataUrl<'a> {
     ///
     /// `NotADataUrl` if the text does not begin with `data:`, and `NoComma` if there is no comma before the fragment.
     pub fn process(input: &'a str) -> Result<Self, DataUrlError> {
-        match library::open(input, mime::Mime::from_printed) {
+        match library::open(input, mime::Mime::from_parts) {
             Ok((mime_type, base64, encoded_body_plus_fragment)) => Ok(DataUrl {
                 input,
                 mime_type,
@@ -191,15 +191,7 @@ impl<'a> DataUrl<'a> {
         if tail.len() >= LONG {
             return library::body(self.input, tail.len());
         }
-        let mut body = library::Body::new(self.base64);
-        // With as much room as this, the first call decodes all of it.
-        let mut bytes = Vec::with_capacity(tail.len() + library::LEAST);
-        loop {
-            let status = body.push_next(tail, &mut bytes);
-            if status != library::MORE {
-                return (status, bytes);
-            }
-        }
+        library::body_of_tail(tail, self.base64)
     }
 
     fn fragment(&self) -> Option<FragmentIdentifier<'a>> {

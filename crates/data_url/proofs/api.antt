@@ -1,7 +1,7 @@
 -- The only proofs of the library that callers may use. docs/CALLING.md says what they are for.
 pub use Rattle.data_url.proofs.body.Decoding.{EndsWith, body_answer, body_ends, body_extends, body_fault, body_good}
 pub use Rattle.data_url.proofs.body.Decoding.{body_keeps, body_shorter, body_within_tail, body_within_text, run_counts}
-pub use Rattle.data_url.proofs.body.Decoding.{run_counts_up_to, run_ends, run_extends}
+pub use Rattle.data_url.proofs.body.Decoding.{outcome_shorter, run_counts_up_to, run_ends, run_extends}
 unfoldable pub use Rattle.data_url.proofs.{examples.Literals.{on_literals}, forgiving_base64.Padding.{fault_byte}}
 pub use Rattle.data_url.proofs.forgiving_base64.Groups.{groups_length, two_feeds}
 pub use Rattle.data_url.proofs.forgiving_base64.Padding.{after_groups-append, done_stays, every_after}

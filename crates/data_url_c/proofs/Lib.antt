@@ -1,6 +1,8 @@
 pub mod BodyLemmas
 pub mod EndLemmas
 pub mod FaultStatusLemmas
+pub mod FlagLemmas
+pub mod FormLemmas
 pub mod GivenLemmas
 pub mod KindLemmas
 pub mod LeftLemmas

@@ -1,0 +1,12 @@
+use Rattle.std.proofs.Common.{rules, arith, ap, sym, ◌∙◌, ◌-◌, drop, length, take}
+use Rattle.std.proofs.lemmas.List.{length-drop, take_all}
+use Rattle.data_url_c.proofs.FlagLemmas.{has_flag}
+use Rattle.data_url_c.proofs.flag.flag_of.Goals as goal
+
+pub returns-in-Some : goal.returns-in-Some
+returns-in-Some c =
+    let front = take c.args.comma c.as_bytes.result.now in
+    let header = take (length front - 5) (drop 5 front) in
+    has_flag c.args.text.now front header c.args.comma c.in-Some.flag (search rules) c.requires
+    (ap (take c.args.comma) c.as_bytes.ensures.value) (sym c.starts_with.ensures.value ∙ c.if-not-starts_with.false)
+    (grind (arith, take_all, length-drop)) c.in-Some.ensures

@@ -1,0 +1,60 @@
+//! Whether a body is base64, from the end of the header.
+
+ghost use Rattle.std.specs.Prelude.{◌≡◌, ◌==◌, IfSome, Some};
+ghost use Rattle.std.specs.List.{position};
+ghost use Rattle.data_url.specs.Fetch.{has_base64_suffix};
+ghost use Rattle.data_url.specs.Url.{without_tabs_and_newlines};
+ghost use Rattle.data_url.proofs.api.{header_text, is_kept};
+ghost use Rattle.data_url_c.specs.Steps.Opening.{HasFlag};
+
+/// The scheme, as it is commonly spelled.
+const SCHEME: &[u8; 5] = b"data:";
+
+/// The end of the header of a base64 body.
+const SUFFIX: [u8; 7] = *b";base64";
+
+/// Returns whether a byte is written as it is in a path and in a query, also at the end.
+fn is_kept(byte: u8) -> bool
+    ensures { result ≡ is_kept byte }
+{
+    (byte > b' ') & (byte <= b'~') & !matches!(byte, b'"' | b'#' | b',' | b'<' | b'>' | b'?')
+}
+
+/// Returns whether the serialised text of a header has the suffix, if the end of the header tells.
+#[tactic(auto, using(crate::proofs::FlagLemmas::ends))]
+fn flag_at_end(header: &[u8]) -> Option<bool>
+    ensures { IfSome result (λ flag. flag
+        ≡ has_base64_suffix (header_text (without_tabs_and_newlines header.now))) }
+{
+    let Some(last) = header.len().checked_sub(1) else {
+        return None;
+    };
+    if header[last] != b'4' {
+        if is_kept(header[last]) {
+            return Some(false);
+        }
+        return None;
+    }
+    let Some(suffix) = header.len().checked_sub(SUFFIX.len()) else {
+        return None;
+    };
+    if header[suffix..].eq_ignore_ascii_case(&SUFFIX) {
+        return Some(true);
+    }
+    None
+}
+
+/// Returns whether the body of a URL is base64, if the text before its first comma begins with `data:` and its end tells.
+pub(crate) fn flag_of(text: &str, comma: usize) -> Option<bool>
+    requires { position (λ b. b == 44) text.now ≡ Some comma }
+    ensures { IfSome result (HasFlag text.now) }
+{
+    let front = &text.as_bytes()[..comma];
+    if !front.starts_with(SCHEME) {
+        return None;
+    }
+    match flag_at_end(&front[SCHEME.len()..]) {
+        Some(flag) => Some(flag),
+        None => None,
+    }
+}
