@@ -145,6 +145,17 @@ impl<'a> DataUrl<'a> {
         F: FnMut(&[u8]) -> Result<(), E>,
     {
         let tail = self.encoded_body_plus_fragment;
+        if tail.len() < LONG {
+            let mut room = library::Room::<LONG>::new();
+            let (status, bytes) = library::short_body(tail, self.base64, &mut room);
+            if !bytes.is_empty() {
+                write_body_bytes(bytes).map_err(DecodeError::WriteError)?;
+            }
+            return match status {
+                library::DONE => Ok(self.fragment()),
+                status => Err(forgiving_base64::details(status).into()),
+            };
+        }
         let mut body = library::Body::new(self.base64);
         let mut room = library::Room::<ROOM>::new();
         loop {
@@ -191,7 +202,7 @@ impl<'a> DataUrl<'a> {
         if tail.len() >= LONG {
             return library::body(self.input, tail.len());
         }
-        library::body_of_tail(tail, self.base64)
+        library::short_body_to_vec(tail, self.base64)
     }
 
     fn fragment(&self) -> Option<FragmentIdentifier<'a>> {

@@ -1,6 +1,8 @@
 //! The calls of the library, as `bindings/c/data_url.h` declares them. Everything that is unsafe is in this file.
 
 use alloc::alloc::{handle_alloc_error, Layout};
+use alloc::borrow::ToOwned;
+use alloc::string::String;
 use alloc::vec::Vec;
 use core::convert::TryInto;
 use core::mem::MaybeUninit;
@@ -179,14 +181,33 @@ fn text_of(bytes: &[u8]) -> &str {
 /// The parts of a MIME type: the type, the subtype, and the name and the value of each parameter. Each comes after its length.
 pub(crate) struct Parts<'a>(&'a [u8]);
 
-impl<'a> Iterator for Parts<'a> {
-    type Item = &'a str;
+/// The parts of `text/plain;charset=US-ASCII`, the type of a URL without a header.
+const DEFAULT: &[u8; 56] = b"\x04\0\0\0\0\0\0\0text\x05\0\0\0\0\0\0\0plain\
+    \x07\0\0\0\0\0\0\0charset\x08\0\0\0\0\0\0\0US-ASCII";
 
-    fn next(&mut self) -> Option<&'a str> {
-        let len = self.0.get(..LENGTH)?.try_into().ok()?;
-        let (part, rest) = self.0[LENGTH..].split_at(u64::from_le_bytes(len) as usize);
+impl Parts<'_> {
+    /// Whether the type is that of a URL without a header.
+    pub(crate) fn is_default(&self) -> bool {
+        self.0 == DEFAULT
+    }
+
+    pub(crate) fn is_empty(&self) -> bool {
+        self.0.is_empty()
+    }
+
+    /// Takes the next two parts.
+    pub(crate) fn next_pair(&mut self) -> (String, String) {
+        (self.next(), self.next())
+    }
+
+    /// Takes the next part.
+    #[inline]
+    fn next(&mut self) -> String {
+        let (len, rest) = self.0.split_at(LENGTH);
+        let len = u64::from_le_bytes(len.try_into().expect("eight bytes")) as usize;
+        let (part, rest) = rest.split_at(len);
         self.0 = rest;
-        Some(text_of(part))
+        text_of(part).to_owned()
     }
 }
 
@@ -246,22 +267,29 @@ pub(crate) fn body(url: &str, room: usize) -> (u32, Vec<u8>) {
     (refusal(answer.status), bytes)
 }
 
-/// The body of a tail, whole: its status, and the bytes that come before a fault. It is decoded without reading the header.
-pub(crate) fn body_of_tail(tail: &str, is_base64: bool) -> (u32, Vec<u8>) {
-    // With room for the whole tail, the call decodes all of it.
+/// Decodes the body of a short tail to `room` bytes at `out`, which have room for the tail. The header is not read again.
+unsafe fn decode_short(tail: &str, is_base64: bool, out: *mut u8, room: usize) -> Answer {
+    let answer = dataurl_tail_utf8(tail.as_ptr(), tail.len(), is_base64, out, room);
+    assert!(answer.status != OUTPUT_TOO_SMALL && answer.len <= room);
+    answer
+}
+
+/// The body of a short tail: its status, and the bytes that come before a fault.
+pub(crate) fn short_body_to_vec(tail: &str, is_base64: bool) -> (u32, Vec<u8>) {
     let mut bytes = Vec::with_capacity(tail.len());
-    let answer = unsafe {
-        dataurl_tail_utf8(
-            tail.as_ptr(),
-            tail.len(),
-            is_base64,
-            bytes.as_mut_ptr(),
-            bytes.capacity(),
-        )
-    };
-    assert!(answer.len <= bytes.capacity());
+    let answer = unsafe { decode_short(tail, is_base64, bytes.as_mut_ptr(), bytes.capacity()) };
     unsafe { bytes.set_len(answer.len) };
     (answer.status, bytes)
+}
+
+/// The same, in a buffer that has room for the tail.
+pub(crate) fn short_body<'r, const N: usize>(
+    tail: &str,
+    is_base64: bool,
+    room: &'r mut Room<N>,
+) -> (u32, &'r [u8]) {
+    let answer = unsafe { decode_short(tail, is_base64, room.as_mut_ptr(), N) };
+    (answer.status, room.written(answer.len))
 }
 
 impl Body {

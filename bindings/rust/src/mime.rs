@@ -3,6 +3,7 @@
 use crate::library::{self, Parts};
 use alloc::borrow::ToOwned;
 use alloc::string::String;
+use alloc::vec;
 use alloc::vec::Vec;
 use core::fmt::{self, Write};
 use core::str::FromStr;
@@ -45,12 +46,17 @@ impl Mime {
 
     /// Makes a MIME type of the parts that the library returns.
     pub(crate) fn from_parts(mut parts: Parts<'_>) -> Mime {
-        let mut next = || parts.next().map(str::to_owned);
-        let type_ = next().unwrap_or_default();
-        let subtype = next().unwrap_or_default();
-        let mut parameters = Vec::new();
-        while let Some(name) = next() {
-            parameters.push((name, next().unwrap_or_default()));
+        // The type of a URL without a header is common, and is made of constants.
+        if parts.is_default() {
+            return Mime {
+                parameters: vec![("charset".to_owned(), "US-ASCII".to_owned())],
+                ..Mime::new("text", "plain")
+            };
+        }
+        let (type_, subtype) = parts.next_pair();
+        let mut parameters = Vec::with_capacity(!parts.is_empty() as usize);
+        while !parts.is_empty() {
+            parameters.push(parts.next_pair());
         }
         Mime {
             type_,

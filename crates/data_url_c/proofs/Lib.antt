@@ -1,4 +1,5 @@
 pub mod BodyLemmas
+pub mod CommaLemmas
 pub mod EndLemmas
 pub mod FaultStatusLemmas
 pub mod FlagLemmas

@@ -4,20 +4,20 @@ ghost use Rattle.std.specs.Prelude.{◌≡◌, ◌==◌, IfSome, Some};
 ghost use Rattle.std.specs.List.{position};
 ghost use Rattle.data_url.specs.Fetch.{has_base64_suffix};
 ghost use Rattle.data_url.specs.Url.{without_tabs_and_newlines};
-ghost use Rattle.data_url.proofs.api.{header_text, is_kept};
+ghost use Rattle.data_url.proofs.api.{header_text, is_plain_path};
 ghost use Rattle.data_url_c.specs.Steps.Opening.{HasFlag};
 
-/// The scheme, as it is commonly spelled.
+/// The scheme.
 const SCHEME: &[u8; 5] = b"data:";
 
 /// The end of the header of a base64 body.
 const SUFFIX: [u8; 7] = *b";base64";
 
-/// Returns whether a byte is written as it is in a path and in a query, also at the end.
-fn is_kept(byte: u8) -> bool
-    ensures { result ≡ is_kept byte }
+/// Returns whether a byte of a path is serialised as it is, and is none of `#`, `,` and `?`.
+fn is_plain_path(byte: u8) -> bool
+    ensures { result ≡ is_plain_path byte }
 {
-    (byte > b' ') & (byte <= b'~') & !matches!(byte, b'"' | b'#' | b',' | b'<' | b'>' | b'?')
+    (byte >= b' ') & (byte <= b'~') & !matches!(byte, b'#' | b',' | b'?')
 }
 
 /// Returns whether the serialised text of a header has the suffix, if the end of the header tells.
@@ -26,31 +26,27 @@ fn flag_at_end(header: &[u8]) -> Option<bool>
     ensures { IfSome result (λ flag. flag
         ≡ has_base64_suffix (header_text (without_tabs_and_newlines header.now))) }
 {
-    let Some(last) = header.len().checked_sub(1) else {
-        return None;
-    };
+    let last = header.len().checked_sub(1)?;
     if header[last] != b'4' {
-        if is_kept(header[last]) {
+        if header[last] != b' ' && is_plain_path(header[last]) {
             return Some(false);
         }
         return None;
     }
-    let Some(suffix) = header.len().checked_sub(SUFFIX.len()) else {
-        return None;
-    };
+    let suffix = header.len().checked_sub(SUFFIX.len())?;
     if header[suffix..].eq_ignore_ascii_case(&SUFFIX) {
         return Some(true);
     }
     None
 }
 
-/// Returns whether the body of a URL is base64, if the text before its first comma begins with `data:` and its end tells.
+/// Returns whether the body of a URL is base64, if the text before its first comma begins with the scheme and its end tells.
 pub(crate) fn flag_of(text: &str, comma: usize) -> Option<bool>
     requires { position (λ b. b == 44) text.now ≡ Some comma }
     ensures { IfSome result (HasFlag text.now) }
 {
     let front = &text.as_bytes()[..comma];
-    if !front.starts_with(SCHEME) {
+    if front.len() < SCHEME.len() || !front[..SCHEME.len()].eq_ignore_ascii_case(SCHEME) {
         return None;
     }
     match flag_at_end(&front[SCHEME.len()..]) {

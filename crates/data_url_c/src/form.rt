@@ -4,7 +4,7 @@ ghost use Rattle.std.specs.Prelude.{◌≡◌, ◌+◌, ◌-◌, ◌^◌, ◌≤
 ghost use Rattle.data_url.specs.Mime.{default_record};
 ghost use Rattle.data_url.specs.MimeType.{record_of};
 ghost use Rattle.data_url_c.specs.Answers.{Answers, Shows};
-ghost use Rattle.data_url_c.specs.Forms.{form_of, part, parts_of};
+ghost use Rattle.data_url_c.specs.Forms.{form_of, part, parts_of, serialised};
 ghost use Rattle.data_url_c.specs.Gives.{GivesTypeInParts};
 ghost use Rattle.data_url_c.specs.Parts.{WritesFront};
 ghost use Rattle.data_url_c.specs.Steps.{Writes, WritesForm};
@@ -104,7 +104,19 @@ pub(crate) fn type_in_parts(alloc: Global, text: &str, out: &mut [u8]) -> DataUr
     }
 }
 
+/// Writes a serialised record to the start of an output. Returns None if allocation fails.
+#[inline(never)]
+fn show_serialised(alloc: Global, mime: &Mime, out: &mut [u8]) -> Option<DataUrlAnswer>
+    ensures { WritesForm (serialised (record_of mime.now)) out.old out.new result }
+{
+    match printed_of(alloc, mime) {
+        Ok(text) => Some(show(DONE, &text, out)),
+        Err(_) => None,
+    }
+}
+
 /// Writes a record to the start of an output, in parts or serialised. Returns None if allocation fails.
+#[inline(always)]
 pub(crate) fn show_record(
     alloc: Global,
     mime: &Mime,
@@ -116,10 +128,7 @@ pub(crate) fn show_record(
     if in_parts {
         return show_parts(mime, out);
     }
-    match printed_of(alloc, mime) {
-        Ok(text) => Some(show(DONE, &text, out)),
-        Err(_) => None,
-    }
+    show_serialised(alloc, mime, out)
 }
 
 /// Writes the record of a URL without a header to the start of an output.

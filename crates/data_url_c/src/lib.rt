@@ -32,6 +32,7 @@ ghost use Rattle.data_url_c.specs.Parts.{FeedsPart, FinishesPart};
 mod answer;
 mod base64;
 mod body;
+mod comma;
 mod flag;
 mod form;
 mod kind;

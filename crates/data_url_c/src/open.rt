@@ -11,6 +11,7 @@ ghost use Rattle.data_url_c.specs.Steps.{HasLength, ReadsProbe};
 ghost use Rattle.data_url_c.specs.Steps.Opening.{IsRefused, ReadsUrl, WritesType};
 
 use crate::answer::{DataUrlAnswer, answer};
+use crate::comma::comma_of;
 use crate::flag::flag_of;
 use crate::form::{show_default, show_record};
 use crate::refusal::Refusal;
@@ -36,13 +37,6 @@ pub struct DataUrlOpened {
     pub tail_len: usize,
     /// Whether the body is base64.
     pub is_base64: bool,
-}
-
-/// Returns the place of the first comma.
-pub(crate) fn comma_of(text: &str) -> Option<usize>
-    ensures { result ≡ position (λ b. b == 44) text.now }
-{
-    text.as_bytes().iter().position(|byte| *byte == b',')
 }
 
 /// Returns how many bytes at the end are C0 controls or spaces.
