@@ -196,12 +196,13 @@ impl Parts<'_> {
     }
 
     /// Takes the next two parts.
+    #[inline(always)]
     pub(crate) fn next_pair(&mut self) -> (String, String) {
         (self.next(), self.next())
     }
 
     /// Takes the next part.
-    #[inline]
+    #[inline(always)]
     fn next(&mut self) -> String {
         let (len, rest) = self.0.split_at(LENGTH);
         let len = u64::from_le_bytes(len.try_into().expect("eight bytes")) as usize;

@@ -45,6 +45,7 @@ impl Mime {
     }
 
     /// Makes a MIME type of the parts that the library returns.
+    #[inline(always)]
     pub(crate) fn from_parts(mut parts: Parts<'_>) -> Mime {
         // The type of a URL without a header is common, and is made of constants.
         if parts.is_default() {

@@ -1,6 +1,7 @@
 //! Whether a body is base64, from the end of the header.
 
-ghost use Rattle.std.specs.Prelude.{◌≡◌, ◌==◌, IfSome, Some};
+ghost use Rattle.std.specs.Prelude.{◌≡◌, ◌==◌, ◌≤◌, IfSome, IsTrue, Some, codes, length, map, take};
+ghost use Rattle.std.specs.Char.{to_ascii_lowercase};
 ghost use Rattle.std.specs.List.{position};
 ghost use Rattle.data_url.specs.Fetch.{has_base64_suffix};
 ghost use Rattle.data_url.specs.Url.{without_tabs_and_newlines};
@@ -40,13 +41,24 @@ fn flag_at_end(header: &[u8]) -> Option<bool>
     None
 }
 
+/// Returns whether a text begins with the scheme, in any ASCII case. As it is commonly spelled, it is compared at once.
+fn has_scheme(text: &[u8]) -> bool
+    ensures long { IsTrue result → 5 ≤ length text.now }
+    ensures scheme { IsTrue result → map to_ascii_lowercase (take 5 text.now) ≡ codes "data:" }
+{
+    if text.starts_with(SCHEME) {
+        return true;
+    }
+    text.len() >= SCHEME.len() && text[..SCHEME.len()].eq_ignore_ascii_case(SCHEME)
+}
+
 /// Returns whether the body of a URL is base64, if the text before its first comma begins with the scheme and its end tells.
 pub(crate) fn flag_of(text: &str, comma: usize) -> Option<bool>
     requires { position (λ b. b == 44) text.now ≡ Some comma }
     ensures { IfSome result (HasFlag text.now) }
 {
     let front = &text.as_bytes()[..comma];
-    if front.len() < SCHEME.len() || !front[..SCHEME.len()].eq_ignore_ascii_case(SCHEME) {
+    if !has_scheme(front) {
         return None;
     }
     match flag_at_end(&front[SCHEME.len()..]) {
