@@ -3,10 +3,7 @@ use Rattle.std.proofs.Common.{◌≡◌, ◌≢◌, ◌==◌, ℕ, ◌+◌, ◌-
 use Rattle.std.proofs.Common.{get_or, take, drop, codes, Option, None, Some, position, refl, sym, ap, ◌∙◌, subst, arith}
 use Rattle.std.proofs.Common.{map, nat_eq, take-append-drop}
 use Rattle.std.specs.Char.{to_ascii_lowercase}
-use Rattle.std.specs.List.{list_all, starts_with}
-use Rattle.std.proofs.lemmas.Bool.Decides.{Decides-eqb}
 use Rattle.std.proofs.lemmas.List.{drop_all, drop_more, length-drop, take_all}
-use Rattle.std.proofs.lemmas.Slice.Eq.{starts_is}
 use Rattle.data_url.specs.DataUrl.{IsAcceptable}
 use Rattle.data_url.specs.Fetch.{has_base64_suffix, header_of, staged}
 use Rattle.data_url.specs.Url.{after, is_c0_control_or_space, trimmed_text, without_tabs_and_newlines}

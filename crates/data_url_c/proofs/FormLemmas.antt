@@ -3,7 +3,7 @@ use Rattle.std.proofs.Common.{◌≡◌, ℕ, ◌+◌, ◌-◌, ◌^◌, ◌≤�
 use Rattle.std.proofs.Common.{refl, sym, ap, ◌∙◌, subst, arith, append_assoc, length-append, codes, Bool, true, false}
 use Rattle.std.proofs.lemmas.List.{append-nil, drop_all, drop_more, length-drop, length-take}
 use Rattle.std.proofs.lemmas.Slice.{drop-append-drop}
-use Rattle.std.proofs.Math.Seq.{drop-append_seam, take-append_seam}
+use Rattle.std.proofs.Math.Seq.{take-append_seam}
 use Rattle.std.specs.Global.{Global}
 use Rattle.std.specs.Int.{to_le_bytes, w64}
 use Rattle.std.specs.List.{flat_map}
@@ -14,11 +14,11 @@ use Rattle.data_url.specs.Mime.{Parses, Record, default_record}
 use Rattle.data_url.specs.MimeType.{code_points, pair_of, record_of}
 use Rattle.data_url.specs.declared.mime.Mime.{Mime}
 use Rattle.data_url.proofs.api.{ascii_all, on_literals}
-use Rattle.data_url_c.specs.Forms.{form_of, part, parts_of, parts_of_pair, serialised}
+use Rattle.data_url_c.specs.Forms.{part, parts_of, parts_of_pair, serialised}
 use Rattle.data_url_c.specs.Answers.{Answers}
 use Rattle.data_url_c.specs.Gives.{GivesTypeInParts}
 use Rattle.data_url_c.specs.Parts.{WritesFront}
-use Rattle.data_url_c.specs.Steps.{Writes, WritesForm}
+use Rattle.data_url_c.specs.Steps.{Writes, WritesForm, form_of}
 use Rattle.data_url_c.specs.declared.answer.DataUrlAnswer.{DataUrlAnswer}
 use Rattle.data_url_c.proofs.PartLemmas.{Reaches, reaches_front, reaches_more}
 use Rattle.data_url_c.proofs.PrintLemmas.{ascii_encoded, vec_of}

@@ -1,7 +1,7 @@
 -- How a MIME type record is written to an output: serialised, or in parts.
 use Rattle.std.specs.Int.{to_le_bytes, w64}
 use Rattle.std.specs.List.{flat_map}
-use Rattle.std.specs.Prelude.{◌++◌, Bool, List, encode_utf8_all, false, length, true, ℕ}
+use Rattle.std.specs.Prelude.{◌++◌, List, encode_utf8_all, length, ℕ}
 use Rattle.data_url.specs.Mime.{Pair, Record, printed}
 
 -- the serialised record
@@ -20,8 +20,3 @@ parts_of_pair p = part (encode_utf8_all p.0) ++ part (encode_utf8_all p.1)
 abbrev pub parts_of : Record → List ℕ
 parts_of m = part (encode_utf8_all m.type_)
     ++ (part (encode_utf8_all m.subtype) ++ flat_map parts_of_pair m.parameters)
-
--- the record in parts, or serialised
-abbrev pub form_of : Bool → Record → List ℕ
-form_of true m = parts_of m
-form_of false m = serialised m

@@ -2,7 +2,7 @@
 pub mod Opening
 pub mod Windows
 use Rattle.std.specs.Global.{Global}
-use Rattle.std.specs.Prelude.{Bool, Err, IsUtf8, List, MatchBool, MatchOption, None, Ok, Option, Result, Some, Vec, [], drop, encode_utf8_all, false, is_some, length, min, option_map, slice_index, take, ℕ, ◌++◌, ◌+◌, ◌-◌, ◌<◌, ◌==◌, ◌^◌, ◌∷◌, ◌≡◌, ◌≤◌, ◌⊎◌}
+use Rattle.std.specs.Prelude.{Bool, Err, IsUtf8, List, MatchBool, MatchOption, None, Ok, Option, Result, Some, Vec, [], drop, encode_utf8_all, false, is_some, length, min, option_map, slice_index, take, true, ℕ, ◌++◌, ◌+◌, ◌-◌, ◌<◌, ◌==◌, ◌^◌, ◌∷◌, ◌≡◌, ◌≤◌, ◌⊎◌}
 use Rattle.data_url.specs.DataUrl.{Answers, IsAcceptable, IsUrlOf, mime_of, url_body, url_tail}
 use Rattle.data_url.specs.Fetch.{Bad, Good, Outcome, plain_body, outcome_bytes}
 use Rattle.data_url.specs.Mime.{IsRecordOf, Record, printed}
@@ -10,6 +10,7 @@ use Rattle.data_url.specs.MimeType.{record_of}
 use Rattle.data_url.specs.Url.{after, encoded_fragment, number_sign}
 use Rattle.data_url.specs.declared.DataUrl.{DataUrl}
 use Rattle.data_url_c.specs.Answers.{Crosses, Given, Shows, status_of_kind}
+use Rattle.data_url_c.specs.Forms.{parts_of, serialised}
 use Rattle.data_url_c.specs.Gives.{GivesMime, RefusesUrl}
 use Rattle.data_url_c.specs.declared.answer.DataUrlAnswer.{DataUrlAnswer}
 use Rattle.data_url_c.specs.declared.refusal.Refusal.TheVariants.{InvalidBase64, NoComma, NoFragment, NotADataUrl, OutOfMemory}
@@ -74,6 +75,11 @@ CrossesOrNot given old new r = Crosses given old new r ⊎ (IsFault given × Cro
 abbrev pub HasLength : Outcome → ℕ → Type 0
 HasLength (Good bytes) len = len ≡ min (length bytes) (2 ^ 64 - 1)
 HasLength (Bad bytes kind) len = Unit {0}
+
+-- the record in parts, or serialised
+abbrev pub form_of : Bool → Record → List ℕ
+form_of true m = parts_of m
+form_of false m = serialised m
 
 -- the text of a record was written to the output; or allocation failed, and it does not change
 abbrev pub WritesForm : List ℕ → List ℕ → List ℕ → Option DataUrlAnswer → Type 0

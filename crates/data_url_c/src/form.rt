@@ -4,10 +4,10 @@ ghost use Rattle.std.specs.Prelude.{◌≡◌, ◌+◌, ◌-◌, ◌^◌, ◌≤
 ghost use Rattle.data_url.specs.Mime.{default_record};
 ghost use Rattle.data_url.specs.MimeType.{record_of};
 ghost use Rattle.data_url_c.specs.Answers.{Answers, Shows};
-ghost use Rattle.data_url_c.specs.Forms.{form_of, part, parts_of, serialised};
+ghost use Rattle.data_url_c.specs.Forms.{part, parts_of, serialised};
 ghost use Rattle.data_url_c.specs.Gives.{GivesTypeInParts};
 ghost use Rattle.data_url_c.specs.Parts.{WritesFront};
-ghost use Rattle.data_url_c.specs.Steps.{Writes, WritesForm};
+ghost use Rattle.data_url_c.specs.Steps.{Writes, WritesForm, form_of};
 
 use crate::answer::{DONE, DataUrlAnswer, OUTPUT_TOO_SMALL, answer, show};
 use crate::output::push;

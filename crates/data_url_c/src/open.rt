@@ -4,10 +4,9 @@ ghost use Rattle.std.specs.Prelude.{◌≡◌, ◌==◌, ◌++◌, ◌<◌, IfOk
 ghost use Rattle.std.specs.List.{position, suffix_len};
 ghost use Rattle.data_url.specs.DataUrl.{url_body};
 ghost use Rattle.data_url.specs.Url.{is_c0_control_or_space};
-ghost use Rattle.data_url_c.specs.Forms.{form_of};
 ghost use Rattle.data_url_c.specs.Gives.{RefusesUrl};
 ghost use Rattle.data_url_c.specs.Opens.{OpensAs};
-ghost use Rattle.data_url_c.specs.Steps.{HasLength, ReadsProbe};
+ghost use Rattle.data_url_c.specs.Steps.{HasLength, ReadsProbe, form_of};
 ghost use Rattle.data_url_c.specs.Steps.Opening.{IsRefused, ReadsUrl, WritesType};
 
 use crate::answer::{DataUrlAnswer, answer};

@@ -1,7 +1,8 @@
 use Rattle.std.proofs.Common.{Bool, List, subst, sym, ℕ}
 use Rattle.data_url.specs.Mime.{default_record}
 use Rattle.data_url_c.specs.Answers.{Shows}
-use Rattle.data_url_c.specs.Forms.{form_of, part}
+use Rattle.data_url_c.specs.Forms.{part}
+use Rattle.data_url_c.specs.Steps.{form_of}
 use Rattle.data_url_c.proofs.FormLemmas.{default_parts, default_serialised}
 use Rattle.data_url_c.proofs.form.show_default.Goals as goal
 

@@ -1,5 +1,5 @@
 use Rattle.std.proofs.Common.{◌+◌, ◌∙◌, refl, sym}
-use Rattle.data_url_c.specs.Forms.{form_of}
+use Rattle.data_url_c.specs.Steps.{form_of}
 use Rattle.data_url_c.proofs.OpenLemmas.{fits_tail, low_is, opens_read, opens_refused}
 use Rattle.data_url_c.proofs.open.open.Goals as goal
 

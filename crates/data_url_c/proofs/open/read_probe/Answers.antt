@@ -1,5 +1,5 @@
-use Rattle.std.proofs.Common.{ap, refl, subst}
-use Rattle.data_url_c.specs.Forms.{form_of}
+use Rattle.std.proofs.Common.{refl}
+use Rattle.data_url_c.specs.Steps.{form_of}
 use Rattle.data_url_c.proofs.OpenLemmas.{type_written}
 use Rattle.data_url_c.proofs.open.read_probe.Goals as goal
 

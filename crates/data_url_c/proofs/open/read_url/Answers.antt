@@ -1,5 +1,5 @@
 use Rattle.std.proofs.Common.{arith}
-use Rattle.data_url_c.specs.Forms.{form_of}
+use Rattle.data_url_c.specs.Steps.{form_of}
 use Rattle.data_url_c.proofs.FormLemmas.{default_small}
 use Rattle.data_url_c.proofs.OpenLemmas.{at_comma, default_read, read_known, reads_url}
 use Rattle.data_url_c.proofs.open.read_url.Goals as goal

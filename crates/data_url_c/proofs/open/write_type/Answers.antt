@@ -1,4 +1,4 @@
-use Rattle.data_url_c.specs.Forms.{form_of}
+use Rattle.data_url_c.specs.Steps.{form_of}
 use Rattle.data_url_c.proofs.OpenLemmas.{type_written}
 use Rattle.data_url_c.proofs.open.write_type.Goals as goal
 

@@ -1,4 +1,4 @@
-use Rattle.std.proofs.Common.{Err, refl, rules, sym, true, ◌≡◌}
+use Rattle.std.proofs.Common.{Err, refl, rules, true, ◌≡◌}
 use Rattle.data_url.specs.Fetch.{outcome, plain_body}
 use Rattle.data_url.specs.declared.forgiving_base64.DecodeError.TheVariants.{InvalidBase64}
 use Rattle.data_url_c.specs.contracts.tail.fn.decode_gathered.write as closure

@@ -1,4 +1,4 @@
-use Rattle.std.proofs.Common.{arith, refl}
+use Rattle.std.proofs.Common.{arith}
 use Rattle.data_url.proofs.api.{body_shorter}
 use Rattle.data_url_c.proofs.WholeLemmas.{decodes_plain}
 use Rattle.data_url_c.proofs.tail.decode_tail.Goals as goal
