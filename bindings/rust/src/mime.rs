@@ -44,15 +44,21 @@ impl Mime {
         Some(value)
     }
 
+    /// Makes the type of a URL without a header, which is common, of constants.
+    #[inline(never)]
+    fn of_no_header() -> Mime {
+        Mime {
+            type_: "text".to_owned(),
+            subtype: "plain".to_owned(),
+            parameters: vec![("charset".to_owned(), "US-ASCII".to_owned())],
+        }
+    }
+
     /// Makes a MIME type of the parts that the library returns.
     #[inline(always)]
     pub(crate) fn from_parts(mut parts: Parts<'_>) -> Mime {
-        // The type of a URL without a header is common, and is made of constants.
         if parts.is_default() {
-            return Mime {
-                parameters: vec![("charset".to_owned(), "US-ASCII".to_owned())],
-                ..Mime::new("text", "plain")
-            };
+            return Mime::of_no_header();
         }
         let (type_, subtype) = parts.next_pair();
         let mut parameters = Vec::with_capacity(!parts.is_empty() as usize);
