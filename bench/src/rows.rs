@@ -394,26 +394,92 @@ fn push_fragments(table: &mut Table) {
     }
 }
 
+/// Adds a row of `bindings/rust` in which the header is read, and two in which the body is decoded as well.
+#[cfg(not(feature = "against"))]
+fn push_short_binding(table: &mut Table, name: &str, make: fn(&mut Numbers) -> Vec<u8>) {
+    use crate::bindings;
+    let row = table.push(
+        format!("bindings short {name} process"),
+        make,
+        (bindings::process, theirs::process),
+    );
+    row.shows_ours = bindings::process_mime;
+    row.shows_theirs = theirs::process_mime;
+    let calls: (Call, Call) = (bindings::decode_to_vec, theirs::decode_to_vec);
+    table.push(
+        format!("bindings short {name} process, decode_to_vec"),
+        make,
+        calls,
+    );
+    let calls: (Call, Call) = (bindings::decode, theirs::decode);
+    table
+        .push(
+            format!("bindings short {name} process, decode"),
+            make,
+            calls,
+        )
+        .is_timed_with_room = true;
+}
+
+/// Short URLs through `bindings/rust`: kinds of headers, and kinds of bodies.
+#[cfg(not(feature = "against"))]
+fn push_short_bindings(table: &mut Table) {
+    /// A URL with this header and a body of twenty bytes.
+    fn with(header: &str, numbers: &mut Numbers) -> Vec<u8> {
+        url(header, &base64(numbers, 20, Lines::NONE))
+    }
+    let headers: [(&str, fn(&mut Numbers) -> Vec<u8>); 9] = [
+        ("empty", |numbers| with(HEADERS[0].1, numbers)),
+        ("type", |numbers| with(HEADERS[1].1, numbers)),
+        ("charset", |numbers| with(HEADERS[2].1, numbers)),
+        ("base64", |numbers| with(HEADERS[3].1, numbers)),
+        ("charset, base64", |numbers| {
+            with("text/html;charset=utf-8;base64", numbers)
+        }),
+        ("letters", |numbers| with(HEADERS[4].1, numbers)),
+        ("quoted", |numbers| {
+            with("text/html;charset=\"utf-8\";base64", numbers)
+        }),
+        ("five", |numbers| with(HEADERS[5].1, numbers)),
+        ("upper case", |numbers| {
+            let text = with("image/png;base64", numbers);
+            [b"DATA:", &text[5..]].concat()
+        }),
+    ];
+    let bodies: [(&str, fn(&mut Numbers) -> Vec<u8>); 10] = [
+        ("no body", |_| plain_url(b"")),
+        ("plain 20", |numbers| plain_url(&escaped(numbers, 20, 0))),
+        ("plain 60", |numbers| plain_url(&escaped(numbers, 60, 0))),
+        ("plain 300", |numbers| plain_url(&escaped(numbers, 300, 0))),
+        ("escapes 20% 20", |numbers| {
+            plain_url(&escaped(numbers, 20, 20))
+        }),
+        ("escapes 20% 60", |numbers| {
+            plain_url(&escaped(numbers, 60, 20))
+        }),
+        ("escapes 20% 300", |numbers| {
+            plain_url(&escaped(numbers, 300, 20))
+        }),
+        ("base64 60", |numbers| {
+            base64_url(&base64(numbers, 60, Lines::NONE))
+        }),
+        ("base64 300", |numbers| {
+            base64_url(&base64(numbers, 300, Lines::NONE))
+        }),
+        ("base64 escapes 10% 300", |numbers| {
+            base64_url(&base64_with_escapes(numbers, 300, 10))
+        }),
+    ];
+    for (name, make) in headers.iter().chain(&bodies) {
+        push_short_binding(table, name, *make);
+    }
+}
+
 /// Rows of `bindings/rust` beside the crate whose place it takes.
 #[cfg(not(feature = "against"))]
 fn push_bindings(table: &mut Table) {
     use crate::bindings;
-    for (kind, header) in HEADERS {
-        let make = move |numbers: &mut Numbers| url(header, &base64(numbers, 20, Lines::NONE));
-        let row = table.push(
-            format!("bindings short {kind} process"),
-            make,
-            (bindings::process, theirs::process),
-        );
-        row.shows_ours = bindings::process_mime;
-        row.shows_theirs = theirs::process_mime;
-        let calls: (Call, Call) = (bindings::decode_to_vec, theirs::decode_to_vec);
-        table.push(
-            format!("bindings short {kind} process, decode_to_vec"),
-            make,
-            calls,
-        );
-    }
+    push_short_bindings(table);
     let kinds: [(&str, fn(&mut Numbers, usize) -> Vec<u8>); 5] = [
         ("url base64 clean", |numbers, len| {
             base64_url(&base64(numbers, len, Lines::NONE))

@@ -111,7 +111,7 @@ impl<'a> DataUrl<'a> {
     ///
     /// `NotADataUrl` if the text does not begin with `data:`, and `NoComma` if there is no comma before the fragment.
     pub fn process(input: &'a str) -> Result<Self, DataUrlError> {
-        match library::open(input, mime::Mime::from_printed) {
+        match library::open(input, mime::Mime::from_parts) {
             Ok((mime_type, base64, encoded_body_plus_fragment)) => Ok(DataUrl {
                 input,
                 mime_type,
@@ -145,6 +145,17 @@ impl<'a> DataUrl<'a> {
         F: FnMut(&[u8]) -> Result<(), E>,
     {
         let tail = self.encoded_body_plus_fragment;
+        if tail.len() < LONG {
+            let mut room = library::Room::<LONG>::new();
+            let (status, bytes) = library::short_body(tail, self.base64, &mut room);
+            if !bytes.is_empty() {
+                write_body_bytes(bytes).map_err(DecodeError::WriteError)?;
+            }
+            return match status {
+                library::DONE => Ok(self.fragment()),
+                status => Err(forgiving_base64::details(status).into()),
+            };
+        }
         let mut body = library::Body::new(self.base64);
         let mut room = library::Room::<ROOM>::new();
         loop {
@@ -191,15 +202,7 @@ impl<'a> DataUrl<'a> {
         if tail.len() >= LONG {
             return library::body(self.input, tail.len());
         }
-        let mut body = library::Body::new(self.base64);
-        // With as much room as this, the first call decodes all of it.
-        let mut bytes = Vec::with_capacity(tail.len() + library::LEAST);
-        loop {
-            let status = body.push_next(tail, &mut bytes);
-            if status != library::MORE {
-                return (status, bytes);
-            }
-        }
+        library::short_body_to_vec(tail, self.base64)
     }
 
     fn fragment(&self) -> Option<FragmentIdentifier<'a>> {

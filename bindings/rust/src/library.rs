@@ -1,7 +1,10 @@
 //! The calls of the library, as `bindings/c/data_url.h` declares them. Everything that is unsafe is in this file.
 
 use alloc::alloc::{handle_alloc_error, Layout};
+use alloc::borrow::ToOwned;
+use alloc::string::String;
 use alloc::vec::Vec;
+use core::convert::TryInto;
 use core::mem::MaybeUninit;
 
 pub(crate) const DONE: u32 = 0;
@@ -15,11 +18,11 @@ pub(crate) const SYMBOL_AFTER_PADDING: u32 = 10;
 pub(crate) const MORE: u32 = 11;
 pub(crate) const UNEXPECTED_SYMBOL: u32 = 256;
 
-/// The smallest output that a part of a body is decoded into, in bytes.
-pub(crate) const LEAST: usize = 8;
+/// How many bytes that the library writes fit on the stack. Where there are more, they are written again, into a vector.
+const WRITTEN: usize = 256;
 
-/// How many bytes of a printed text fit on the stack. A longer one is printed a second time, into a vector.
-const PRINTED: usize = 128;
+/// How many bytes the length of a part has.
+const LENGTH: usize = 8;
 
 #[repr(C)]
 pub(crate) struct Answer {
@@ -62,10 +65,17 @@ pub(crate) struct Base64 {
 }
 
 extern "C" {
-    fn dataurl_open_utf8(url: *const u8, len: usize, out: *mut u8, room: usize) -> OpenedUrl;
-    fn dataurl_type(text: *const u8, len: usize, out: *mut u8, room: usize) -> Answer;
+    fn dataurl_open_parts_utf8(url: *const u8, len: usize, out: *mut u8, room: usize) -> OpenedUrl;
+    fn dataurl_type_parts_utf8(text: *const u8, len: usize, out: *mut u8, room: usize) -> Answer;
     fn dataurl_fragment(url: *const u8, len: usize, out: *mut u8, room: usize) -> Answer;
     fn dataurl_body_utf8(url: *const u8, len: usize, out: *mut u8, room: usize) -> Answer;
+    fn dataurl_tail_utf8(
+        tail: *const u8,
+        len: usize,
+        is_base64: bool,
+        out: *mut u8,
+        room: usize,
+    ) -> Answer;
     fn dataurl_body_next_utf8(
         body: *mut Body,
         tail: *const u8,
@@ -136,35 +146,69 @@ impl<const N: usize> Room<N> {
 }
 
 /// Calls a function with room on the stack and, if the answer does not fit, again with a vector; returns what `read` makes of
-/// the printed text.
-fn printed<A, T>(
+/// the bytes that it wrote.
+fn written<A, T>(
     call: impl Fn(*mut u8, usize) -> A,
     answer: impl Fn(&A) -> (u32, usize),
-    read: impl Fn(&A, &str) -> T,
+    read: impl Fn(&A, &[u8]) -> T,
 ) -> Result<T, u32> {
     check_processor();
-    let mut room = Room::<PRINTED>::new();
-    let given = call(room.as_mut_ptr(), PRINTED);
+    let mut room = Room::<WRITTEN>::new();
+    let given = call(room.as_mut_ptr(), WRITTEN);
     let (status, len) = answer(&given);
     match status {
-        // The library prints UTF-8.
-        DONE => Ok(read(&given, unsafe {
-            core::str::from_utf8_unchecked(room.written(len))
-        })),
+        DONE => Ok(read(&given, room.written(len))),
         OUTPUT_TOO_SMALL => {
             let mut bytes: Vec<u8> = Vec::with_capacity(len);
             let given = call(bytes.as_mut_ptr(), len);
             match answer(&given) {
                 (DONE, len) => {
                     unsafe { bytes.set_len(len) };
-                    Ok(read(&given, unsafe {
-                        core::str::from_utf8_unchecked(&bytes)
-                    }))
+                    Ok(read(&given, &bytes))
                 }
                 (status, _) => Err(refusal(status)),
             }
         }
         status => Err(refusal(status)),
+    }
+}
+
+/// A text that the library wrote, which is UTF-8.
+fn text_of(bytes: &[u8]) -> &str {
+    unsafe { core::str::from_utf8_unchecked(bytes) }
+}
+
+/// The parts of a MIME type: the type, the subtype, and the name and the value of each parameter. Each comes after its length.
+pub(crate) struct Parts<'a>(&'a [u8]);
+
+/// The parts of `text/plain;charset=US-ASCII`, the type of a URL without a header.
+const DEFAULT: &[u8; 56] = b"\x04\0\0\0\0\0\0\0text\x05\0\0\0\0\0\0\0plain\
+    \x07\0\0\0\0\0\0\0charset\x08\0\0\0\0\0\0\0US-ASCII";
+
+impl Parts<'_> {
+    /// Whether the type is that of a URL without a header.
+    pub(crate) fn is_default(&self) -> bool {
+        self.0 == DEFAULT
+    }
+
+    pub(crate) fn is_empty(&self) -> bool {
+        self.0.is_empty()
+    }
+
+    /// Takes the next two parts.
+    #[inline(always)]
+    pub(crate) fn next_pair(&mut self) -> (String, String) {
+        (self.next(), self.next())
+    }
+
+    /// Takes the next part.
+    #[inline(always)]
+    fn next(&mut self) -> String {
+        let (len, rest) = self.0.split_at(LENGTH);
+        let len = u64::from_le_bytes(len.try_into().expect("eight bytes")) as usize;
+        let (part, rest) = rest.split_at(len);
+        self.0 = rest;
+        text_of(part).to_owned()
     }
 }
 
@@ -176,35 +220,34 @@ fn refusal(status: u32) -> u32 {
     status
 }
 
-/// Opens a URL: the result of `read` for its printed MIME type, whether its body is base64, and the text after its
-/// comma.
-pub(crate) fn open<T>(url: &str, read: impl Fn(&str) -> T) -> Result<(T, bool, &str), u32> {
-    printed(
+/// Opens a URL: the result of `read` for its MIME type, whether its body is base64, and the text after its comma.
+pub(crate) fn open<T>(url: &str, read: impl Fn(Parts<'_>) -> T) -> Result<(T, bool, &str), u32> {
+    written(
         // The bytes of a `str` are UTF-8.
-        |out, room| unsafe { dataurl_open_utf8(url.as_ptr(), url.len(), out, room) },
+        |out, room| unsafe { dataurl_open_parts_utf8(url.as_ptr(), url.len(), out, room) },
         |opened| (opened.status, opened.len),
-        |opened, text| {
+        |opened, parts| {
             let tail = &url[opened.tail..opened.tail + opened.tail_len];
-            (read(text), opened.is_base64, tail)
+            (read(Parts(parts)), opened.is_base64, tail)
         },
     )
 }
 
-/// The result of `read` for the printed text of a MIME type.
-pub(crate) fn mime_type<T>(text: &str, read: impl Fn(&str) -> T) -> Result<T, u32> {
-    printed(
-        |out, room| unsafe { dataurl_type(text.as_ptr(), text.len(), out, room) },
+/// The result of `read` for a MIME type.
+pub(crate) fn mime_type<T>(text: &str, read: impl Fn(Parts<'_>) -> T) -> Result<T, u32> {
+    written(
+        |out, room| unsafe { dataurl_type_parts_utf8(text.as_ptr(), text.len(), out, room) },
         |answer| (answer.status, answer.len),
-        |_, text| read(text),
+        |_, parts| read(Parts(parts)),
     )
 }
 
 /// The result of `read` for the encoded fragment of a URL.
 pub(crate) fn fragment<T>(url: &str, read: impl Fn(&str) -> T) -> Result<T, u32> {
-    printed(
+    written(
         |out, room| unsafe { dataurl_fragment(url.as_ptr(), url.len(), out, room) },
         |answer| (answer.status, answer.len),
-        |_, text| read(text),
+        |_, text| read(text_of(text)),
     )
 }
 
@@ -225,6 +268,31 @@ pub(crate) fn body(url: &str, room: usize) -> (u32, Vec<u8>) {
     (refusal(answer.status), bytes)
 }
 
+/// Decodes the body of a short tail to `room` bytes at `out`, which have room for the tail. The header is not read again.
+unsafe fn decode_short(tail: &str, is_base64: bool, out: *mut u8, room: usize) -> Answer {
+    let answer = dataurl_tail_utf8(tail.as_ptr(), tail.len(), is_base64, out, room);
+    assert!(answer.status != OUTPUT_TOO_SMALL && answer.len <= room);
+    answer
+}
+
+/// The body of a short tail: its status, and the bytes that come before a fault.
+pub(crate) fn short_body_to_vec(tail: &str, is_base64: bool) -> (u32, Vec<u8>) {
+    let mut bytes = Vec::with_capacity(tail.len());
+    let answer = unsafe { decode_short(tail, is_base64, bytes.as_mut_ptr(), bytes.capacity()) };
+    unsafe { bytes.set_len(answer.len) };
+    (answer.status, bytes)
+}
+
+/// The same, in a buffer that has room for the tail.
+pub(crate) fn short_body<'r, const N: usize>(
+    tail: &str,
+    is_base64: bool,
+    room: &'r mut Room<N>,
+) -> (u32, &'r [u8]) {
+    let answer = unsafe { decode_short(tail, is_base64, room.as_mut_ptr(), N) };
+    (answer.status, room.written(answer.len))
+}
+
 impl Body {
     /// The front of a body.
     pub(crate) fn new(is_base64: bool) -> Body {
@@ -235,24 +303,6 @@ impl Body {
             padding: 0,
             is_base64: is_base64 as u8,
         }
-    }
-
-    /// Appends the next bytes of the body to a vector, and returns the status.
-    pub(crate) fn push_next(&mut self, tail: &str, bytes: &mut Vec<u8>) -> u32 {
-        bytes.reserve(LEAST);
-        let (len, room) = (bytes.len(), bytes.capacity() - bytes.len());
-        let answer = unsafe {
-            dataurl_body_next_utf8(
-                self,
-                tail.as_ptr(),
-                tail.len(),
-                bytes.as_mut_ptr().add(len),
-                room,
-            )
-        };
-        assert!(answer.len <= room);
-        unsafe { bytes.set_len(len + answer.len) };
-        answer.status
     }
 
     /// The next bytes of the body, and the status.

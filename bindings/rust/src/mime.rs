@@ -1,6 +1,6 @@
 //! MIME types: <https://mimesniff.spec.whatwg.org/#understanding-mime-types>
 
-use crate::library;
+use crate::library::{self, Parts};
 use alloc::borrow::ToOwned;
 use alloc::string::String;
 use alloc::vec;
@@ -44,67 +44,33 @@ impl Mime {
         Some(value)
     }
 
-    /// Reads a MIME type that the library printed.
-    pub(crate) fn from_printed(printed: &str) -> Mime {
-        // The type of a URL without a header is common, and is not parsed.
-        if printed == "text/plain;charset=US-ASCII" {
-            return Mime {
-                parameters: vec![("charset".to_owned(), "US-ASCII".to_owned())],
-                ..Mime::new("text", "plain")
-            };
-        }
-        let (type_, after) = split_at(printed, b'/');
-        let (subtype, parameters) = split_at(&after[1..], b';');
+    /// Makes the type of a URL without a header, which is common, of constants.
+    #[inline(never)]
+    fn of_no_header() -> Mime {
         Mime {
-            type_: type_.to_owned(),
-            subtype: subtype.to_owned(),
-            parameters: parameters_of(parameters),
+            type_: "text".to_owned(),
+            subtype: "plain".to_owned(),
+            parameters: vec![("charset".to_owned(), "US-ASCII".to_owned())],
         }
     }
-}
 
-/// The text before an ASCII character and from it on.
-fn split_at(text: &str, c: u8) -> (&str, &str) {
-    text.split_at(
-        text.bytes()
-            .position(|byte| byte == c)
-            .unwrap_or(text.len()),
-    )
-}
-
-/// The parameters of a printed record, each after a `;`.
-fn parameters_of(printed: &str) -> Vec<(String, String)> {
-    // Most types have one parameter at most.
-    let mut parameters = Vec::with_capacity(!printed.is_empty() as usize);
-    let mut rest = printed;
-    while !rest.is_empty() {
-        let (name, after) = split_at(&rest[1..], b'=');
-        let (value, after) = value_of(&after[1..]);
-        parameters.push((name.to_owned(), value));
-        rest = after;
-    }
-    parameters
-}
-
-/// The value at the front of a printed text, and the text after it.
-fn value_of(text: &str) -> (String, &str) {
-    if !text.starts_with('"') {
-        let (value, after) = split_at(text, b';');
-        return (value.to_owned(), after);
-    }
-    let mut value = String::new();
-    let mut is_escaped = false;
-    for (place, c) in text.char_indices().skip(1) {
-        match c {
-            '"' if !is_escaped => return (value, &text[place + 1..]),
-            '\\' if !is_escaped => is_escaped = true,
-            _ => {
-                value.push(c);
-                is_escaped = false;
-            }
+    /// Makes a MIME type of the parts that the library returns.
+    #[inline(always)]
+    pub(crate) fn from_parts(mut parts: Parts<'_>) -> Mime {
+        if parts.is_default() {
+            return Mime::of_no_header();
+        }
+        let (type_, subtype) = parts.next_pair();
+        let mut parameters = Vec::with_capacity(!parts.is_empty() as usize);
+        while !parts.is_empty() {
+            parameters.push(parts.next_pair());
+        }
+        Mime {
+            type_,
+            subtype,
+            parameters,
         }
     }
-    unreachable!("a quoted value is printed with its closing quote")
 }
 
 /// The text is not a MIME type.
@@ -125,7 +91,7 @@ impl FromStr for Mime {
     type Err = MimeParsingError;
 
     fn from_str(s: &str) -> Result<Self, Self::Err> {
-        library::mime_type(s, Mime::from_printed).map_err(|_| MimeParsingError(()))
+        library::mime_type(s, Mime::from_parts).map_err(|_| MimeParsingError(()))
     }
 }
 

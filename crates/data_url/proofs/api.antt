@@ -1,7 +1,7 @@
 -- The only proofs of the library that callers may use. docs/CALLING.md says what they are for.
 pub use Rattle.data_url.proofs.body.Decoding.{EndsWith, body_answer, body_ends, body_extends, body_fault, body_good}
 pub use Rattle.data_url.proofs.body.Decoding.{body_keeps, body_shorter, body_within_tail, body_within_text, run_counts}
-pub use Rattle.data_url.proofs.body.Decoding.{run_counts_up_to, run_ends, run_extends}
+pub use Rattle.data_url.proofs.body.Decoding.{outcome_shorter, run_counts_up_to, run_ends, run_extends}
 unfoldable pub use Rattle.data_url.proofs.{examples.Literals.{on_literals}, forgiving_base64.Padding.{fault_byte}}
 pub use Rattle.data_url.proofs.forgiving_base64.Groups.{groups_length, two_feeds}
 pub use Rattle.data_url.proofs.forgiving_base64.Padding.{after_groups-append, done_stays, every_after}
@@ -14,6 +14,7 @@ pub use Rattle.data_url.proofs.forgiving_base64.Steps.{feeds_none, feeds_then, f
 pub use Rattle.data_url.proofs.forgiving_base64.Steps.{kind_left, left_more, padding_more, symbols_more}
 pub use Rattle.data_url.proofs.forgiving_base64.WholeTexts.{decodes_finished, decodes_keeps, decodes_reads}
 pub use Rattle.data_url.proofs.forgiving_base64.WholeTexts.{decodes_refused, fed_nothing, run_keeps, run_reads}
+pub use Rattle.data_url.proofs.header.Ends.{flag_false, flag_true, spelled_scheme}
 pub use Rattle.data_url.proofs.header.Stages.{body_of_url, bytes_by_place, bytes_trimmed, fragment_of_url, is_accepted}
 pub use Rattle.data_url.proofs.header.Stages.{lacks_comma, rest_bytes, scheme_has_no_comma, stages_accepted}
 pub use Rattle.data_url.proofs.header.{Serialising.{suffix_stop}, Stages.{stages_no_comma, stages_no_scheme}}
@@ -28,4 +29,5 @@ pub use Rattle.data_url.proofs.texts.Bytes.{without_tabs_and_newlines-append}
 -- Words of the lemmas above
 pub use Rattle.data_url.specs.Steps.Split.{HasNoScheme, IsHeaderAndTail, IsSchemeAndRest}
 unfoldable pub use Rattle.data_url.specs.Steps.Header.{header_text}
+pub use Rattle.data_url.specs.Steps.Split.{is_plain_path}
 pub use Rattle.data_url.specs.Steps.Whole.{DecodesText}

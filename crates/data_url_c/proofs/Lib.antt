@@ -1,6 +1,9 @@
 pub mod BodyLemmas
+pub mod CommaLemmas
 pub mod EndLemmas
 pub mod FaultStatusLemmas
+pub mod FlagLemmas
+pub mod FormLemmas
 pub mod GivenLemmas
 pub mod KindLemmas
 pub mod LeftLemmas

@@ -9,6 +9,7 @@ use Rattle.std.specs.Option.{option_map}
 use Rattle.std.proofs.Math.Seq.{take-append-add}
 use Rattle.std.proofs.lemmas.Bool.{cases_Bool, cases_lt}
 use Rattle.std.proofs.lemmas.List.{drop-append-le, length-map, length-take}
+use Rattle.std.proofs.lemmas.Option.{same_Some}
 use Rattle.std.proofs.lemmas.List.Folds.{prefix_len-append}
 use Rattle.std.proofs.lemmas.List.Sums.{prefix_len-le-length, suffix_len-le-length}
 use Rattle.std.proofs.lemmas.Slice.Eq.{bytes_eq-Decides}
@@ -241,6 +242,21 @@ accepted_with a t s comma hash b =
       staged_is = stages_accepted u rest s.rest (trimmed_tail t) b r cut
           (has_base64_suffix (header_text (without_tabs_and_newlines s.rest))) refl;
     }
+
+-- a text with a scheme that is accepted has the serialised header, whether or not there is a '#'
+pub known_header : (a t : List ℕ) (s : HasScheme (trimmed_front a)) (o : Option (List ℕ)) → after 35 s.rest ≡ o
+    → after 44 a ≡ None → IsBytes (trimmed_text (a ++ 44 ∷ t)) → (header : List ℕ)
+    → header_of (a ++ 44 ∷ t) ≡ Some header → IsAcceptable (staged (a ++ 44 ∷ t))
+    → header_text (without_tabs_and_newlines s.rest) ≡ header
+known_header a t s None e h b header is ok =
+    let comma = rest_lacks_comma (trimmed_front a) s (none_drop 44 (prefix_len is_c0_control_or_space a) a h) in
+    same_Some (header_text (without_tabs_and_newlines s.rest)) header
+    (sym (accepted_with a t s comma e b).header_is ∙ is)
+known_header a t s (Some rest) e h b header is ok =
+    let comma = rest_lacks_comma (trimmed_front a) s (none_drop 44 (prefix_len is_c0_control_or_space a) a h) in
+    let no = stages_no_comma (a ++ 44 ∷ t) (s.rest ++ 44 ∷ trimmed_tail t) b (has_rest a t s)
+    (ap (after 44) (front_stays s.rest rest (44 ∷ trimmed_tail t) e) ∙ front_lacks_comma s.rest (Some rest) e comma) in
+    absurd (subst IsAcceptable no ok)
 
 -- if a text up to its first comma is decided, the stages end alike, whatever follows the comma
 ends_by : (a : List ℕ) → after 44 a ≡ None → Decides a → Ends a

@@ -14,6 +14,14 @@ EndsAs (Good bytes) before after status len = (status ≡ 0) × WritesFront byte
 EndsAs (Bad bytes kind) before after status len =
     (status ≡ status_of_kind kind) × WritesFront bytes before after len
 
+-- decoding a tail: if the output has room for the tail, its body is written. Otherwise the status is 5, the
+-- length is that of the tail, and the output does not change.
+pub record DecodesTail (flag : Bool) (tail before after : List ℕ) (r : DataUrlStep) : Type 0 where
+  pub fits : length tail ≤ length before
+      → EndsAs (outcome flag (plain_body tail)) before after r.status r.len
+  pub is_too_small : length before < length tail
+      → (r.status ≡ 5) × (r.len ≡ length tail) × (after ≡ before)
+
 -- A body in parts
 
 -- whether the body is base64

@@ -5,6 +5,7 @@ use Rattle.data_url.specs.DataUrl.{IsAcceptable}
 use Rattle.data_url.specs.Fetch.{Accepted, Bad, Good, NoComma as no_comma, NoScheme, Outcome, staged}
 use Rattle.data_url.specs.Mime.{HasNoRecord, IsRecordOf, Parses, Record, printed}
 use Rattle.data_url_c.specs.Answers.{Given}
+use Rattle.data_url_c.specs.Forms.{parts_of, serialised}
 use Rattle.data_url_c.specs.declared.refusal.Refusal.TheVariants.{InvalidBase64, NoComma, NoFragment, NotADataUrl, NotAMimeType, NotUtf8, OutOfMemory}
 use Rattle.data_url_c.specs.declared.refusal.Refusal.{Refusal}
 
@@ -57,18 +58,25 @@ GivesFragment x (Err (InvalidBase64 kind none)) =
     × (none.items ≡ [])
 GivesFragment x (Err refusal) = RefusesUrl x refusal
 
--- a MIME type, serialised as UTF-8
+-- a MIME type, in a form
+abbrev pub GivesTypeAs : (Record → List ℕ) → List ℕ → Given → Type 0
+GivesTypeAs form x (Ok text) =
+    (mime : Record) × IsUtf8 x × Parses (chars x) mime × (text.items ≡ form mime)
+GivesTypeAs form x (Err NotUtf8) = IsUtf8 x → ⊥
+GivesTypeAs form x (Err NotAMimeType) = IsUtf8 x × HasNoRecord (chars x)
+GivesTypeAs form x (Err OutOfMemory) = IsUtf8 x × (HasNoRecord (chars x) → ⊥)
+GivesTypeAs form x (Err NotADataUrl) = ⊥
+GivesTypeAs form x (Err NoComma) = ⊥
+GivesTypeAs form x (Err NoFragment) = ⊥
+GivesTypeAs form x (Err (InvalidBase64 kind before)) = ⊥
+
+-- a MIME type, serialised
 abbrev pub GivesType : List ℕ → Given → Type 0
-GivesType x (Ok text) =
-    (mime : Record) × IsUtf8 x × Parses (chars x) mime
-    × (text.items ≡ encode_utf8_all (printed mime))
-GivesType x (Err NotUtf8) = IsUtf8 x → ⊥
-GivesType x (Err NotAMimeType) = IsUtf8 x × HasNoRecord (chars x)
-GivesType x (Err OutOfMemory) = IsUtf8 x × (HasNoRecord (chars x) → ⊥)
-GivesType x (Err NotADataUrl) = ⊥
-GivesType x (Err NoComma) = ⊥
-GivesType x (Err NoFragment) = ⊥
-GivesType x (Err (InvalidBase64 kind before)) = ⊥
+GivesType x given = GivesTypeAs serialised x given
+
+-- a MIME type, in parts
+abbrev pub GivesTypeInParts : List ℕ → Given → Type 0
+GivesTypeInParts x given = GivesTypeAs parts_of x given
 
 -- the decoded bytes; or, if the base64 is not valid, the bytes of the groups before the fault and the
 -- kind of the fault; or allocation failed

@@ -2,7 +2,7 @@
 pub mod Opening
 pub mod Windows
 use Rattle.std.specs.Global.{Global}
-use Rattle.std.specs.Prelude.{Bool, Err, IsUtf8, List, MatchBool, MatchOption, None, Ok, Result, Some, Vec, [], drop, encode_utf8_all, false, is_some, length, min, option_map, slice_index, take, ℕ, ◌++◌, ◌+◌, ◌-◌, ◌<◌, ◌==◌, ◌^◌, ◌∷◌, ◌≡◌, ◌≤◌, ◌⊎◌}
+use Rattle.std.specs.Prelude.{Bool, Err, IsUtf8, List, MatchBool, MatchOption, None, Ok, Option, Result, Some, Vec, [], drop, encode_utf8_all, false, is_some, length, min, option_map, slice_index, take, true, ℕ, ◌++◌, ◌+◌, ◌-◌, ◌<◌, ◌==◌, ◌^◌, ◌∷◌, ◌≡◌, ◌≤◌, ◌⊎◌}
 use Rattle.data_url.specs.DataUrl.{Answers, IsAcceptable, IsUrlOf, mime_of, url_body, url_tail}
 use Rattle.data_url.specs.Fetch.{Bad, Good, Outcome, plain_body, outcome_bytes}
 use Rattle.data_url.specs.Mime.{IsRecordOf, Record, printed}
@@ -10,6 +10,7 @@ use Rattle.data_url.specs.MimeType.{record_of}
 use Rattle.data_url.specs.Url.{after, encoded_fragment, number_sign}
 use Rattle.data_url.specs.declared.DataUrl.{DataUrl}
 use Rattle.data_url_c.specs.Answers.{Crosses, Given, Shows, status_of_kind}
+use Rattle.data_url_c.specs.Forms.{parts_of, serialised}
 use Rattle.data_url_c.specs.Gives.{GivesMime, RefusesUrl}
 use Rattle.data_url_c.specs.declared.answer.DataUrlAnswer.{DataUrlAnswer}
 use Rattle.data_url_c.specs.declared.refusal.Refusal.TheVariants.{InvalidBase64, NoComma, NoFragment, NotADataUrl, OutOfMemory}
@@ -75,21 +76,37 @@ abbrev pub HasLength : Outcome → ℕ → Type 0
 HasLength (Good bytes) len = len ≡ min (length bytes) (2 ^ 64 - 1)
 HasLength (Bad bytes kind) len = Unit {0}
 
--- the MIME type of a probe was written to the output, and the flag says whether its body has one byte
-pub record IsRead (x old new : List ℕ) (r : DataUrlAnswer) (flag : Bool) : Type 0 where
-  pub url : DataUrl
+-- the record in parts, or serialised
+abbrev pub form_of : Bool → Record → List ℕ
+form_of true m = parts_of m
+form_of false m = serialised m
+
+-- the text of a record was written to the output; or allocation failed, and it does not change
+abbrev pub WritesForm : List ℕ → List ℕ → List ℕ → Option DataUrlAnswer → Type 0
+WritesForm text old new (Some r) = (length text < 2 ^ 63) × Shows 0 text old new r
+WritesForm text old new None = new ≡ old
+
+-- the MIME type of a URL was written to the output
+pub record IsTypeWritten (form : Record → List ℕ) (x old new : List ℕ) (url : DataUrl) (r : DataUrlAnswer)
+    : Type 0 where
   pub url_is : IsUrlOf x url
-  pub text : Vec ℕ Global
-  pub text_is : text.items ≡ encode_utf8_all (printed (record_of (mime_of url)))
-  pub shown : Shows 0 text.items old new r
+  pub small : length (form (record_of (mime_of url))) < 2 ^ 63
+  pub shown : Shows 0 (form (record_of (mime_of url))) old new r
+
+-- the MIME type of a probe was written to the output, and the flag says whether its body has one byte
+pub record IsRead (form : Record → List ℕ) (x old new : List ℕ) (r : DataUrlAnswer) (flag : Bool)
+    : Type 0 where
+  pub url : DataUrl
+  pub written : IsTypeWritten form x old new url r
   pub len : ℕ
   pub len_is : HasLength (url_body url) len
   pub flag_is : flag ≡ (len == 1)
 
 -- what reading a probe returns
-abbrev pub ReadsProbe : List ℕ → List ℕ → List ℕ → Result (DataUrlAnswer × Bool) Refusal → Type 0
-ReadsProbe x old new (Ok found) = IsRead x old new found.0 found.1
-ReadsProbe x old new (Err refusal) = RefusesUrl x refusal × (new ≡ old)
+abbrev pub ReadsProbe : (Record → List ℕ) → List ℕ → List ℕ → List ℕ → Result (DataUrlAnswer × Bool) Refusal
+    → Type 0
+ReadsProbe form x old new (Ok found) = IsRead form x old new found.0 found.1
+ReadsProbe form x old new (Err refusal) = RefusesUrl x refusal × (new ≡ old)
 
 -- a piece was written after the first len bytes, if it fits
 pub record Writes (piece old : List ℕ) (len : ℕ) (new : List ℕ) (len' : ℕ) : Type 0 where

@@ -59,7 +59,7 @@ fn feed_piece(state: &mut DataUrlBase64, piece: &Piece, out: &mut [u8]) -> DataU
 
 /// Writes the percent-decoded body of a text to an output that has room for it. Returns its length, and whether the
 /// text has a fragment.
-fn copy_body(text: &str, out: &mut [u8]) -> (usize, bool)
+pub(crate) fn copy_body(text: &str, out: &mut [u8]) -> (usize, bool)
     requires { length (plain_body text.now) ≤ length out.old }
     ensures wrote { WritesFront (plain_body text.now) out.old out.new result.0 }
     ensures fragment { IsFragmentThere text.now result.1 }

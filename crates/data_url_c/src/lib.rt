@@ -23,19 +23,24 @@
 
 ghost use Rattle.std.specs.Prelude.{IsUtf8};
 ghost use Rattle.data_url_c.specs.Answers.{Answers};
-ghost use Rattle.data_url_c.specs.Bodies.{StepsBody};
-ghost use Rattle.data_url_c.specs.Gives.{GivesBase64, GivesBody, GivesFragment, GivesMime, GivesType};
-ghost use Rattle.data_url_c.specs.Opens.{Opens};
+ghost use Rattle.data_url_c.specs.Bodies.{DecodesTail, StepsBody};
+ghost use Rattle.data_url_c.specs.Gives.{GivesBase64, GivesBody, GivesFragment, GivesMime};
+ghost use Rattle.data_url_c.specs.Gives.{GivesType, GivesTypeInParts};
+ghost use Rattle.data_url_c.specs.Opens.{Opens, OpensInParts};
 ghost use Rattle.data_url_c.specs.Parts.{FeedsPart, FinishesPart};
 
 mod answer;
 mod base64;
 mod body;
+mod comma;
+mod flag;
+mod form;
 mod kind;
 mod open;
 mod output;
 mod parts;
 mod refusal;
+mod tail;
 mod texts;
 mod whole;
 mod window;
@@ -99,6 +104,21 @@ pub extern "C" fn dataurl_type(alloc: Global, text: &[u8], out: &mut [u8]) -> Da
     answer(texts::type_(alloc, text), out)
 }
 
+/// A MIME type, parsed
+/// ([MIME Sniffing Standard, section 4.4](https://mimesniff.spec.whatwg.org/#parsing-a-mime-type)), in parts, as
+/// `dataurl_open_parts_utf8` writes it. The text is UTF-8, and is not checked.
+#[unsafe(no_mangle)]
+pub extern "C" fn dataurl_type_parts_utf8(
+    alloc: Global,
+    text: &[u8],
+    out: &mut [u8],
+) -> DataUrlAnswer
+    requires { IsUtf8 text.now }
+    ensures { Answers (GivesTypeInParts text.now) out.old out.new result }
+{
+    form::type_in_parts(alloc, unsafe { str::from_utf8_unchecked(text) }, out)
+}
+
 /// Decodes base64
 /// ([Infra Standard, forgiving-base64 decode](https://infra.spec.whatwg.org/#forgiving-base64-decode)). If it is not
 /// valid, the output has the bytes before the first fault. The text may be any bytes.
@@ -116,7 +136,7 @@ pub extern "C" fn dataurl_open(alloc: Global, url: &[u8], out: &mut [u8]) -> Dat
     ensures { Opens url.now out.old out.new result }
 {
     match texts::text_of(url) {
-        Some(text) => open::open(alloc, text, out),
+        Some(text) => open::open(alloc, text, false, out),
         None => open::refused(Refusal::NotUtf8, out),
     }
 }
@@ -127,7 +147,33 @@ pub extern "C" fn dataurl_open_utf8(alloc: Global, url: &[u8], out: &mut [u8]) -
     requires { IsUtf8 url.now }
     ensures { Opens url.now out.old out.new result }
 {
-    open::open(alloc, unsafe { str::from_utf8_unchecked(url) }, out)
+    open::open(alloc, unsafe { str::from_utf8_unchecked(url) }, false, out)
+}
+
+/// Opens a data: URL as `dataurl_open_utf8` does, and writes its MIME type in parts: the type, the subtype, and the name and
+/// the value of each parameter. Each part comes after its length, which takes eight bytes, the lowest first.
+#[unsafe(no_mangle)]
+pub extern "C" fn dataurl_open_parts_utf8(
+    alloc: Global,
+    url: &[u8],
+    out: &mut [u8],
+) -> DataUrlOpened
+    requires { IsUtf8 url.now }
+    ensures { OpensInParts url.now out.old out.new result }
+{
+    open::open(alloc, unsafe { str::from_utf8_unchecked(url) }, true, out)
+}
+
+/// Decodes the body of a tail, as opening a URL returns it
+/// ([Fetch Standard, section 6](https://fetch.spec.whatwg.org/#data-url-processor)), into an output that is at least as long.
+/// If its base64 is not valid, the output has the bytes before the first fault. Nothing is allocated. The tail is UTF-8, and
+/// is not checked.
+#[unsafe(no_mangle)]
+pub extern "C" fn dataurl_tail_utf8(tail: &[u8], is_base64: bool, out: &mut [u8]) -> DataUrlStep
+    requires { IsUtf8 tail.now }
+    ensures { DecodesTail is_base64 tail.now out.old out.new result }
+{
+    tail::decode_tail(unsafe { str::from_utf8_unchecked(tail) }, is_base64, out)
 }
 
 /// Feeds a part of base64

@@ -5,13 +5,16 @@ ghost use Rattle.std.specs.List.{position, suffix_len};
 ghost use Rattle.data_url.specs.DataUrl.{url_body};
 ghost use Rattle.data_url.specs.Url.{is_c0_control_or_space};
 ghost use Rattle.data_url_c.specs.Gives.{RefusesUrl};
-ghost use Rattle.data_url_c.specs.Opens.{Opens};
-ghost use Rattle.data_url_c.specs.Steps.{HasLength, ReadsProbe};
-ghost use Rattle.data_url_c.specs.Steps.Opening.{IsRefused, ReadsUrl};
+ghost use Rattle.data_url_c.specs.Opens.{OpensAs};
+ghost use Rattle.data_url_c.specs.Steps.{HasLength, ReadsProbe, form_of};
+ghost use Rattle.data_url_c.specs.Steps.Opening.{IsRefused, ReadsUrl, WritesType};
 
-use crate::answer::{DONE, DataUrlAnswer, answer, show};
+use crate::answer::{DataUrlAnswer, answer};
+use crate::comma::comma_of;
+use crate::flag::flag_of;
+use crate::form::{show_default, show_record};
 use crate::refusal::Refusal;
-use crate::texts::{decode_body, printed_of, url_of};
+use crate::texts::{decode_body, url_of};
 use data_url::DataUrl;
 use std::alloc::{AllocError, Global};
 use std::convert::Infallible;
@@ -19,16 +22,13 @@ use std::convert::Infallible;
 /// The start of a URL with an empty header.
 const NO_HEADER: &[u8; 6] = b"data:,";
 
-/// The MIME type of such a URL, as it is printed.
-const DEFAULT_TYPE: &[u8; 27] = b"text/plain;charset=US-ASCII";
-
 /// What opening a URL returns.
 #[repr(C)]
 #[derive(Clone, Copy)]
 pub struct DataUrlOpened {
     /// How the call ended: 0 if the URL was opened.
     pub status: u32,
-    /// How many bytes the printed MIME type has, whether or not they fit the output.
+    /// How many bytes the MIME type has, as it is written, whether or not they fit the output.
     pub len: usize,
     /// Where the tail begins, in bytes of the URL: after its first comma.
     pub tail: usize,
@@ -36,13 +36,6 @@ pub struct DataUrlOpened {
     pub tail_len: usize,
     /// Whether the body is base64.
     pub is_base64: bool,
-}
-
-/// Returns the place of the first comma.
-pub(crate) fn comma_of(text: &str) -> Option<usize>
-    ensures { result ≡ position (λ b. b == 44) text.now }
-{
-    text.as_bytes().iter().position(|byte| *byte == b',')
 }
 
 /// Returns how many bytes at the end are C0 controls or spaces.
@@ -91,35 +84,66 @@ fn refusal_of(alloc: Global, text: &str) -> Refusal
     }
 }
 
-/// Prints the MIME type of a probe's URL, and returns whether its body is base64.
-fn read_probe(alloc: Global, probe: &str, out: &mut [u8]) -> Result<(DataUrlAnswer, bool), Refusal>
-    ensures { ReadsProbe probe.now out.old out.new result }
+/// Writes the MIME type of a probe's URL, and returns whether its body is base64.
+fn read_probe(
+    alloc: Global,
+    probe: &str,
+    in_parts: bool,
+    out: &mut [u8],
+) -> Result<(DataUrlAnswer, bool), Refusal>
+    ensures { ReadsProbe (form_of in_parts) probe.now out.old out.new result }
 {
     let url = match url_of(alloc, probe) {
         Ok(url) => url,
         Err(refusal) => return Err(refusal),
     };
-    match printed_of(alloc, url.mime_type()) {
-        Ok(text) => Ok((show(DONE, &text, out), body_len(&url) == 1)),
-        Err(refusal) => Err(refusal),
+    match show_record(alloc, url.mime_type(), in_parts, out) {
+        Some(answer) => Ok((answer, body_len(&url) == 1)),
+        None => Err(Refusal::OutOfMemory),
     }
 }
 
-/// Prints the MIME type of a URL with a comma, and returns whether its body is base64.
+/// Writes the MIME type of a URL to the start of an output, in parts or serialised.
+fn write_type(
+    alloc: Global,
+    text: &str,
+    in_parts: bool,
+    out: &mut [u8],
+) -> Result<DataUrlAnswer, Refusal>
+    ensures { WritesType (form_of in_parts) text.now out.old out.new result }
+{
+    let url = match url_of(alloc, text) {
+        Ok(url) => url,
+        Err(refusal) => return Err(refusal),
+    };
+    match show_record(alloc, url.mime_type(), in_parts, out) {
+        Some(answer) => Ok(answer),
+        None => Err(Refusal::OutOfMemory),
+    }
+}
+
+/// Writes the MIME type of a URL with a comma, and returns whether its body is base64.
 fn read_url(
     alloc: Global,
     text: &str,
     comma: usize,
+    in_parts: bool,
     out: &mut [u8],
 ) -> Result<(DataUrlAnswer, bool), Refusal>
     requires { position (λ b. b == 44) text.now ≡ Some comma }
-    ensures { ReadsUrl text.now comma out.old out.new result }
+    ensures { ReadsUrl (form_of in_parts) text.now comma out.old out.new result }
 {
     if text.as_bytes().starts_with(NO_HEADER) {
-        return Ok((show(DONE, DEFAULT_TYPE, out), false));
+        return Ok((show_default(in_parts, out), false));
+    }
+    if let Some(is_base64) = flag_of(text, comma) {
+        return match write_type(alloc, text, in_parts, out) {
+            Ok(answer) => Ok((answer, is_base64)),
+            Err(refusal) => Err(refusal),
+        };
     }
     match probe_of(alloc, text, comma) {
-        Ok(probe) => read_probe(alloc, probe.as_str(), out),
+        Ok(probe) => read_probe(alloc, probe.as_str(), in_parts, out),
         Err(AllocError) => Err(refusal_of(alloc, text)),
     }
 }
@@ -138,14 +162,14 @@ pub(crate) fn refused(refusal: Refusal, out: &mut [u8]) -> DataUrlOpened
     }
 }
 
-/// Opens the URL of a text.
-pub(crate) fn open(alloc: Global, text: &str, out: &mut [u8]) -> DataUrlOpened
-    ensures { Opens text.now out.old out.new result }
+/// Opens the URL of a text. Its MIME type is written in parts or serialised.
+pub(crate) fn open(alloc: Global, text: &str, in_parts: bool, out: &mut [u8]) -> DataUrlOpened
+    ensures { OpensAs (form_of in_parts) text.now out.old out.new result }
 {
     let Some(comma) = comma_of(text) else {
         return refused(refusal_of(alloc, text), out);
     };
-    match read_url(alloc, text, comma, out) {
+    match read_url(alloc, text, comma, in_parts, out) {
         Ok((DataUrlAnswer { status, len }, is_base64)) => {
             let tail = comma + 1;
             DataUrlOpened {

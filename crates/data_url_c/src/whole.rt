@@ -11,8 +11,9 @@ ghost use Rattle.data_url_c.specs.Steps.{GetsBody};
 
 use crate::answer::{DONE, DataUrlAnswer, answer};
 use crate::body::feed_whole;
+use crate::comma::comma_of;
 use crate::kind::status_of;
-use crate::open::{comma_of, low_end_len};
+use crate::open::low_end_len;
 use crate::output::push;
 use crate::parts::DataUrlStep;
 use crate::texts::{bytes_of, decode_body, url_of};

@@ -439,7 +439,7 @@ groups_then_rest (p ∷ q ∷ r ∷ []) = omega arith
 groups_then_rest (p ∷ q ∷ r ∷ s ∷ rest) = let h = groups_then_rest rest in omega arith
 
 -- with or without base64, the bytes of the outcome of a text are not longer than the text
-outcome_shorter : (flag : Bool) (s : List ℕ) → length (outcome_bytes (outcome flag s)) ≤ length s
+pub outcome_shorter : (flag : Bool) (s : List ℕ) → length (outcome_bytes (outcome flag s)) ≤ length s
 unfolding outcome complete_bytes decoded values
 outcome_shorter false s = omega arith
 outcome_shorter true s = grind (arith, groups_then_rest, groups_length, length-map, filter_length, length-take)

@@ -100,11 +100,11 @@ end_after x q =
     grind (arith, suffix_stop, suffix_len-le-length is_space q, length-append, take-append-add x (63 ∷ q) n)
 
 -- if q has at least n bytes, the last n bytes of y ++ q are those of q
-last_after : (y q : List ℕ) (n : ℕ) → n ≤ length q → last_bytes n (y ++ q) ≡ last_bytes n q
+pub last_after : (y q : List ℕ) (n : ℕ) → n ≤ length q → last_bytes n (y ++ q) ≡ last_bytes n q
 last_after y q n l = grind (arith, length-append, drop-append-add)
 
 -- if q has at least n bytes, the bytes before the last n of y ++ q are y and the bytes before the last n of q
-before_last_after : (y q : List ℕ) (n : ℕ) → n ≤ length q → before_last n (y ++ q) ≡ y ++ before_last n q
+pub before_last_after : (y q : List ℕ) (n : ℕ) → n ≤ length q → before_last n (y ++ q) ≡ y ++ before_last n q
 before_last_after y q n l = grind (arith, length-append y q, take-append-add y q (length q - n))
 
 -- if q has at least six bytes, what is before a final "base64" of y ++ q is y and what is before that of q
