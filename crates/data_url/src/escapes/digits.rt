@@ -1,6 +1,6 @@
 //! Hexadecimal digits after a `%`, past tabs and newlines.
 
-#![tactic(auto, using(crate::proofs::escapes::Reading::digits))]
+#![tactic(auto, using(crate::proofs::escapes::EscapeDigits::digits))]
 
 ghost use Rattle.std.specs.Prelude.{IsTrue, ◌≡◌, ◌+◌, ◌<◌, ◌≤◌, MatchOption, drop, false, length, slice_index};
 ghost use Rattle.data_url.specs.{Percent.{begins_with_escape}, Url.{percent_sign}};

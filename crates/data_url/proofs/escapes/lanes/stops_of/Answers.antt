@@ -1,5 +1,5 @@
 use Rattle.std.proofs.Common.{arith}
-use Rattle.data_url.proofs.escapes.Blocks.{marks_are, no_stops, passed_are, stops_are, stops_fit}
+use Rattle.data_url.proofs.escapes.StopBits.{marks_are, no_stops, passed_are, stops_are, stops_fit}
 use Rattle.data_url.proofs.escapes.lanes.stops_of.Goals as goal
 
 pub overflow_sub-others : goal.overflow_sub-others

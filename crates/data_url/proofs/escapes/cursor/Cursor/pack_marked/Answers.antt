@@ -1,5 +1,5 @@
 use Rattle.std.proofs.Common.{arith}
-use Rattle.data_url.proofs.escapes.Blocks.{front_of, gathers_front, whole_marks}
+use Rattle.data_url.proofs.escapes.PackedBlocks.{front_of, gathers_front, whole_marks}
 use Rattle.data_url.proofs.escapes.cursor.Cursor.pack_marked.Goals as goal
 
 pub stops_of-passed-requires-clause-marks : goal.stops_of-passed-requires-clause-marks

@@ -1,6 +1,6 @@
 use Rattle.std.proofs.Common.{◌∙◌, ◌≡◌, ◌≤◌, ap, arith, length, map}
 use Rattle.data_url.specs.{Pieces.{text_of}, Steps.Walk.{IsLast}, Steps.Window.{is_marked}}
-use Rattle.data_url.proofs.escapes.Blocks.{gathers_rest, looking_rest}
+use Rattle.data_url.proofs.escapes.PackedBlocks.{gathers_rest, looking_rest}
 use Rattle.data_url.proofs.escapes.cursor.Cursor.pack_rest.Goals as goal
 use lib.Lanes.{mask_l}
 

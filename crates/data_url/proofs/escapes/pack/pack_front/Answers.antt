@@ -1,6 +1,7 @@
 use Rattle.std.proofs.Common.{arith, ◌∙◌, ◌^◌, ◌++◌, ap, take, List, ℕ}
-use Rattle.data_url.proofs.escapes.Blocks.{dropped_few, front_put}
-use Rattle.data_url.proofs.escapes.cursor.pack_front.Goals as goal
+use Rattle.data_url.proofs.escapes.PackedBlocks.{front_put}
+use Rattle.data_url.proofs.escapes.StopBits.{dropped_few}
+use Rattle.data_url.proofs.escapes.pack.pack_front.Goals as goal
 
 pub overflow_mul-dropped : goal.overflow_mul-dropped
 overflow_mul-dropped c =

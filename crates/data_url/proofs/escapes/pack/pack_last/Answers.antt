@@ -1,6 +1,6 @@
 use Rattle.std.proofs.Common.{arith, ◌∙◌, ◌%◌, ◌^◌, ◌≡◌, ap, length, sym}
-use Rattle.data_url.proofs.escapes.Blocks.{rest_marks, rest_packed}
-use Rattle.data_url.proofs.escapes.cursor.pack_last.Goals as goal
+use Rattle.data_url.proofs.escapes.PackedBlocks.{rest_marks, rest_packed}
+use Rattle.data_url.proofs.escapes.pack.pack_last.Goals as goal
 
 pub returns-then-rest-lt-FEW-clause-marks : goal.returns-then-rest-lt-FEW-clause-marks
 returns-then-rest-lt-FEW-clause-marks c =
