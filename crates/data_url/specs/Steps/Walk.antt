@@ -152,9 +152,9 @@ pub record MayGather (c : Cursor) (len : ℕ) : Type 0 where
   pub unknown : c.ahead ≡ Unknown
   pub room : HasRoom c len
 
--- if the block is not dense, 64 more bytes of the text follow it, so that whole blocks can be copied
+-- if the block is followed by another one, 64 more bytes of the text come after it, so that whole blocks can be copied
 abbrev pub IsWide : Cursor → Bool → Type 0
-IsWide c dense = dense ≡ false → c.block.seen + 64 ≤ length (text_of c)
+IsWide c is_followed = is_followed ≡ true → c.block.seen + 64 ≤ length (text_of c)
 
 -- the block that was read last begins at the walk's index, and these are its 64 bytes
 pub record IsWhole (c : Cursor) (bytes : List ℕ) : Type 0 where

@@ -19,10 +19,6 @@ use super::stops::Stop;
 /// How many bytes the buffer holds in which short stretches and values of escapes are gathered.
 pub(crate) const BUFFER_LEN: usize = 512;
 
-/// With this many marks in a block, those escapes of it that are not decoded in lanes are likely to follow one another. A block
-/// of escapes alone has 21 or 22.
-const DENSE: u32 = 18;
-
 impl<'a> Cursor<'a> {
     /// The next bytes: a long stretch of the text, or shorter ones and the values of escapes, gathered in a buffer.
     #[inline(always)]
@@ -138,10 +134,10 @@ impl<'a> Cursor<'a> {
             return None;
         }
         let is_followed = self.source.len() - self.block.seen >= BLOCK;
-        Some(if is_followed && self.block.marks.count_ones() < DENSE {
-            self.gather_block(room, len, false)
-        } else {
+        Some(if is_followed {
             self.gather_block(room, len, true)
+        } else {
+            self.gather_block(room, len, false)
         })
     }
 
@@ -151,7 +147,7 @@ impl<'a> Cursor<'a> {
     fn gather_sparse(&mut self, room: &mut [u8; BUFFER_LEN], len: usize) -> Option<usize>
         requires may { MayGather self.old len }
         requires here { self.old.place < self.old.block.seen }
-        requires wide { IsWide self.old false }
+        requires wide { IsWide self.old true }
         ensures gathering { Gathering self.new }
         ensures gathers { Gathers self.old self.new room.old room.new len
             (option_map_or (λ n. n) result len) }
@@ -161,16 +157,16 @@ impl<'a> Cursor<'a> {
         if len == 0 && self.block.marks == 0 {
             return None;
         }
-        Some(self.gather_block(room, len, false))
+        Some(self.gather_block(room, len, true))
     }
 
-    /// Gathers the rest of the block that was read, after the bytes that were gathered before. In a dense block escapes
-    /// follow one another. Any other block is copied by whole blocks.
+    /// Gathers the rest of the block that was read, after the bytes that were gathered before. If the block `is_followed` by
+    /// another one, whole blocks are copied. Otherwise escapes that follow one another are gathered without a look for marks.
     #[inline(always)]
-    fn gather_block(&mut self, room: &mut [u8; BUFFER_LEN], len: usize, dense: bool) -> usize
+    fn gather_block(&mut self, room: &mut [u8; BUFFER_LEN], len: usize, is_followed: bool) -> usize
         requires may { MayGather self.old len }
         requires here { self.old.place < self.old.block.seen }
-        requires wide { IsWide self.old dense }
+        requires wide { IsWide self.old is_followed }
         ensures gathers { Gathers self.old self.new room.old room.new len result }
         ensures few { result ≤ 512 }
         ensures gathering { Gathering self.new }
@@ -180,13 +176,14 @@ impl<'a> Cursor<'a> {
         while self.place < self.block.seen {
             let place = self.place;
             let Some(mark) = self.block.mark_from(&self.source, place) else {
-                self.source.copy(place, self.block.seen, room, len, !dense);
+                self.source
+                    .copy(place, self.block.seen, room, len, is_followed);
                 self.place = self.block.seen;
                 return len + (self.place - place);
             };
-            self.source.copy(place, mark, room, len, !dense);
+            self.source.copy(place, mark, room, len, is_followed);
             self.place = mark;
-            let (more, ended) = self.gather_stop(room, len + (mark - place), dense);
+            let (more, ended) = self.gather_stop(room, len + (mark - place), is_followed);
             len = more;
             if ended {
                 return len;
@@ -197,16 +194,21 @@ impl<'a> Cursor<'a> {
 
     /// Gathers what begins at the mark at the place.
     #[inline(always)]
-    fn gather_stop(&mut self, room: &mut [u8; BUFFER_LEN], len: usize, dense: bool) -> (usize, bool)
+    fn gather_stop(
+        &mut self,
+        room: &mut [u8; BUFFER_LEN],
+        len: usize,
+        is_followed: bool,
+    ) -> (usize, bool)
         requires may { MayGather self.old len }
         requires here { self.old.place < self.old.block.seen }
-        requires wide { IsWide self.old dense }
+        requires wide { IsWide self.old is_followed }
         requires marked { is_marked (slice_index (text_of self.old) self.old.place) ≡ true }
         ensures gathers { Gathers self.old self.new room.old room.new len result.0 }
         ensures goes { IsGathered self.old self.new result.0 result.1 }
     {
         let mark = self.place;
-        match self.source.stop_at(mark, !dense) {
+        match self.source.stop_at(mark, is_followed) {
             Stop::Stays => {
                 room[len] = b'%';
                 self.place = mark + 1;
@@ -219,10 +221,10 @@ impl<'a> Cursor<'a> {
             Stop::Escape(value, end) => {
                 room[len] = value;
                 self.place = end;
-                let len = if dense {
-                    self.gather_escapes(room, len + 1)
-                } else {
+                let len = if is_followed {
                     len + 1
+                } else {
+                    self.gather_escapes(room, len + 1)
                 };
                 (len, false)
             }
