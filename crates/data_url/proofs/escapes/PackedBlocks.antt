@@ -11,16 +11,14 @@ use Rattle.std.proofs.lemmas.Bool.{and_parts, cases_lt, eqb-true, true≢false}
 use Rattle.std.proofs.lemmas.Nat.{and_mask, div-mul-add}
 use Rattle.data_url.specs.Percent.{percent_decoding}
 use Rattle.data_url.specs.Steps.Groups.{clear}
-use Rattle.data_url.proofs.escapes.EscapeDigits.{cleaned_nil, other_first}
-use Rattle.data_url.proofs.escapes.Reading.{percent_nil}
+use Rattle.data_url.proofs.escapes.EscapeDigits.{other_first}
 use Rattle.data_url.proofs.escapes.Reading.{plain_is}
 use Rattle.std.{proofs.Math.Seq.{drop-append_seam}, proofs.lemmas.List.{drop-drop, take-append-le}}
 use Rattle.std.proofs.Math.ListN.{get_or-append}
 use Rattle.data_url.specs.{Fetch.{plain_body}, Steps.Walk.{Gathers, IsBlock, IsWhole, Looking, Reads}}
-use Rattle.data_url.specs.Steps.{Looks.{paid}, Walk.{IsLast, LooksOn}}
+use Rattle.data_url.specs.Steps.{Looks.{paid}}
 use Rattle.data_url.specs.{Pieces.{text_of}, declared.escapes.cursor.Cursor.{Cursor}}
 use Rattle.data_url.proofs.escapes.Reading.{paid_on}
-use Rattle.data_url.proofs.texts.Bytes.{after_nil}
 use Rattle.data_url.specs.{Steps.Digits.{cleaned}, Steps.Window.{is_marked}, Url.{after, is_tab_or_newline}}
 use Rattle.std.proofs.Math.Nat.{mod-eq_of_lt, mul_comm}
 use Rattle.std.proofs.Math.Arith.{mul_pred}
@@ -30,10 +28,13 @@ use Rattle.data_url.specs.Steps.Escapes.{escape_starts, front_values, is_unsure,
 use Rattle.std.proofs.lemmas.Simd.{bit_mask_l, mask_l-lt}
 use Rattle.data_url.proofs.escapes.BlockMarks.{marks_padded}
 use Rattle.data_url.specs.declared.{escapes.source.Source.{Source}, escapes.stops.Block.{Block}}
-use Rattle.std.proofs.lemmas.List.{drop_all, drop_more, get_or-drop, get_or-take, length-replicate, length-drop}
+use Rattle.std.proofs.lemmas.List.{drop_more, get_or-drop, get_or-take, length-replicate, length-drop}
 use lib.Lanes.{mask_l}
 use Rattle.data_url.proofs.escapes.WholeEscapes.{Whole, dropped, is_open, whole}
-use Rattle.data_url.proofs.escapes.StopBits.{and_false, bit_set, front_packed, front_written, length-places, length-stops, open_none, simple_front, stops_are}
+use Rattle.data_url.proofs.escapes.StopBits.{and_false, bit_set, front_packed, front_written, length-places, length-stops, open_none, simple_front}
+use Rattle.data_url.specs.Steps.Escapes.{IsPacked}
+use Rattle.std.proofs.Common.{lit<, lit≤}
+use Rattle.data_url.specs.Steps.Walk.{LooksOn}
 
 -- What a walk gathers from a block
 
@@ -59,80 +60,78 @@ zeros_digit : (k : ℕ) → begins_with_digit (replicate k 0) ≡ false
 zeros_digit zero = refl
 zeros_digit (suc k) = refl
 
--- a block of at most 64 bytes of the text, from an index on, with zeros after them, and how many bytes come before its first
--- stop
-pub record IsFront (text : List ℕ) (place seen : ℕ) (v : List ℕ) (used : ℕ) : Type 0 where
-  pub few : used ≤ seen - place
-  pub within : seen ≤ length text
-  pub some : place < seen
-  pub short : seen ≤ place + 64
-  pub ends : seen < place + 64 → seen ≡ length text
-  pub bytes_are : v ≡ slice_range text place seen ++ replicate (64 - (seen - place)) 0
+-- a block of the text at an index, of at most 64 bytes, with zeros after the end of the text, and how many bytes come before its
+-- first stop
+pub record IsFront (text : List ℕ) (place size : ℕ) (v : List ℕ) (used : ℕ) : Type 0 where
+  pub few : used ≤ size
+  pub within : place + size ≤ length text
+  pub some : 0 < size
+  pub short : size ≤ 64
+  pub ends : size < 64 → place + size ≡ length text
+  pub bytes_are : v ≡ take size (drop place text) ++ replicate (64 - size) 0
   pub none : mask_l (stops v) % 2 ^ used ≡ 0
-  pub stop : used < seen - place → mask_l (stops v) / 2 ^ used % 2 ≡ 1
+  pub stop : used < size → mask_l (stops v) / 2 ^ used % 2 ≡ 1
 
 -- the bytes of the text in a block
-slice_long : {text : List ℕ} {place seen used : ℕ} {v : List ℕ} → IsFront text place seen v used
-    → length (slice_range text place seen) ≡ seen - place
-slice_long {text} {place} {seen} f =
-    length-take-le (seen - place) (drop place text) (omega (arith, length-drop place text, f.within))
+slice_long : {text : List ℕ} {place size used : ℕ} {v : List ℕ} → IsFront text place size v used
+    → length (take size (drop place text)) ≡ size
+slice_long {text} {place} {size} f = length-take-le size (drop place text) (omega (arith, length-drop place text, f.within))
 
-block_long : {text : List ℕ} {place seen used : ℕ} {v : List ℕ} → IsFront text place seen v used → length v ≡ 64
-block_long {text} {place} {seen} f =
-    ap length f.bytes_are ∙ length-append (slice_range text place seen) (replicate (64 - (seen - place)) 0)
-    ∙ omega (arith, slice_long f, length-replicate {A = ℕ} (64 - (seen - place)) 0, f.short, f.some)
+block_long : {text : List ℕ} {place size used : ℕ} {v : List ℕ} → IsFront text place size v used → length v ≡ 64
+block_long {text} {place} {size} f =
+    ap length f.bytes_are ∙ length-append (take size (drop place text)) (replicate (64 - size) 0)
+    ∙ omega (arith, slice_long f, length-replicate {A = ℕ} (64 - size) 0, f.short)
 
 -- the front is a part of the text
-front_is : {text : List ℕ} {place seen used : ℕ} {v : List ℕ} → IsFront text place seen v used
+front_is : {text : List ℕ} {place size used : ℕ} {v : List ℕ} → IsFront text place size v used
     → take used v ≡ take used (drop place text)
-front_is {text} {place} {seen} {used} f =
+front_is {text} {place} {size} {used} f =
     ap (take used) f.bytes_are
-    ∙ take-append-le used (slice_range text place seen) (replicate (64 - (seen - place)) 0) (omega (arith, slice_long f, f.few))
-    ∙ take-take used (seen - place) (drop place text) f.few
+    ∙ take-append-le used (take size (drop place text)) (replicate (64 - size) 0) (omega (arith, slice_long f, f.few))
+    ∙ take-take used size (drop place text) f.few
 
 -- the byte after it, if the text has one in the block, is one at which a stop is
-next_is : {text : List ℕ} {place seen used : ℕ} {v : List ℕ} → IsFront text place seen v used → used < seen - place
+next_is : {text : List ℕ} {place size used : ℕ} {v : List ℕ} → IsFront text place size v used → used < size
     → (get_or v used 0 ≡ get_or text (place + used) 0) × (is_tab_or_newline (get_or v used 0) ≡ false)
     × (is_ascii_hexdigit (get_or v used 0) ≡ false)
-next_is {text} {place} {seen} {used} {v} f l =
+next_is {text} {place} {size} {used} {v} f l =
     let at = ap (λ t. get_or t used 0) f.bytes_are
-    ∙ get_or-append (slice_range text place seen) (replicate (64 - (seen - place)) 0) 0 used (omega (arith, slice_long f, l))
-    ∙ get_or-take (seen - place) (drop place text) used 0 l ∙ get_or-drop place text used 0 in
+    ∙ get_or-append (take size (drop place text)) (replicate (64 - size) 0) 0 used (omega (arith, slice_long f, l))
+    ∙ get_or-take size (drop place text) used 0 l ∙ get_or-drop place text used 0 in
     let bit = bit_set _ (sym (bit_mask_l (stops v) used) ∙ f.stop l) in
     let b = stop_there v used bit in
     (at, b.0, b.1)
 
 -- what is left of the block does not begin with a digit
-rest_digit : {text : List ℕ} {place seen used : ℕ} {v : List ℕ} → IsFront text place seen v used
+rest_digit : {text : List ℕ} {place size used : ℕ} {v : List ℕ} → IsFront text place size v used
     → begins_with_digit (drop used v) ≡ false
-rest_digit {text} {place} {seen} {used} {v} f = elim (cases_lt used (seen - place)) [
+rest_digit {text} {place} {size} {used} {v} f = elim (cases_lt used size) [
   | inl l ↦ ap begins_with_digit (drop_more v used 0 (omega (arith, block_long f, l, f.short))) ∙ (next_is f l).2
   | inr l ↦
-      let all : used ≡ length (slice_range text place seen) = omega (arith, slice_long f, f.few, l) in
+      let all : used ≡ length (take size (drop place text)) = omega (arith, slice_long f, f.few, l) in
       ap₂ (λ n t. begins_with_digit (drop n t)) all f.bytes_are
-      ∙ ap begins_with_digit (drop-append_seam (slice_range text place seen) (replicate (64 - (seen - place)) 0))
-      ∙ zeros_digit (64 - (seen - place))
+      ∙ ap begins_with_digit (drop-append_seam (take size (drop place text)) (replicate (64 - size) 0))
+      ∙ zeros_digit (64 - size)
 ]
 
 -- the text after the front does not go on with its last escape
-rest_closed : {text : List ℕ} {place seen used : ℕ} {v : List ℕ} → IsFront text place seen v used
+rest_closed : {text : List ℕ} {place size used : ℕ} {v : List ℕ} → IsFront text place size v used
     → (is_open (take used v) && begins_with_digit (cleaned (drop (place + used) text))) ≡ false
-rest_closed {text} {place} {seen} {used} {v} f =
+rest_closed {text} {place} {size} {used} {v} f =
     let t = drop (place + used) text in
     let x = take used v in
     let first : get_or t 0 0 ≡ get_or text (place + used) 0 =
     get_or-drop (place + used) text 0 0 ∙ ap (λ n. get_or text n 0) (omega arith) in
     let by_digit : begins_with_digit (cleaned t) ≡ false → (is_open x && begins_with_digit (cleaned t)) ≡ false =
     λ d. ap (λ b. is_open x && b) d ∙ and_false (is_open x) in
-    elim (cases_lt used (seen - place)) [
+    elim (cases_lt used size) [
       | inl l ↦
           let n = next_is f l in
           let same = first ∙ sym n.0 in
           by_digit (other_first t (λ _. (ap is_tab_or_newline same ∙ n.1, ap is_ascii_hexdigit same ∙ n.2)))
-      | inr l ↦ elim (cases_lt (seen - place) 64) [
+      | inr l ↦ elim (cases_lt size 64) [
         | inl k ↦
-            let over : length t ≡ 0 =
-            omega (arith, length-drop (place + used) text, f.few, l, f.some, f.ends (omega (arith, k, f.some))) in
+            let over : length t ≡ 0 = omega (arith, length-drop (place + used) text, f.few, l, f.ends k) in
             by_digit (other_first t (λ some. absurd (omega (arith, some, over))))
         | inr k ↦
             let all : used ≡ 64 = omega (arith, l, k, f.few, f.short) in
@@ -147,12 +146,12 @@ rest_closed {text} {place} {seen} {used} {v} f =
     ]
 
 -- the front is whole
-front_whole : {text : List ℕ} {place seen used : ℕ} {v : List ℕ} → IsFront text place seen v used
+front_whole : {text : List ℕ} {place size used : ℕ} {v : List ℕ} → IsFront text place size v used
     → Whole (take used v) (drop (place + used) text)
-front_whole {text} {place} {seen} {used} {v} f =
-    let size : length (take used v) ≡ used = length-take-le used v (omega (arith, block_long f, f.few, f.short)) in
+front_whole {text} {place} {size} {used} {v} f =
+    let long : length (take used v) ≡ used = length-take-le used v (omega (arith, block_long f, f.few, f.short)) in
     let none : mask_l (stops (take used v ++ drop used v)) % 2 ^ length (take used v) ≡ 0 =
-    ap₂ (λ s n. mask_l (stops s) % 2 ^ n) (take-append-drop used v) size ∙ f.none in
+    ap₂ (λ s n. mask_l (stops s) % 2 ^ n) (take-append-drop used v) long ∙ f.none in
     whole (take used v) (drop (place + used) text) (simple_front (take used v) (drop used v) none) (rest_closed f)
 
 -- the bits of the bytes that are not written: those of the front that are dropped, and those of all bytes after it
@@ -184,29 +183,60 @@ front_put v values begin tabs used long l vs ss ts =
     ∙ ap₂ (λ x m. clear (take used x) m) vs bits
 
 -- they are the part of the body
-front_decoded : {text : List ℕ} {place seen used : ℕ} {v : List ℕ} → IsFront text place seen v used
+front_decoded : {text : List ℕ} {place size used : ℕ} {v : List ℕ} → IsFront text place size v used
     → front_values v used ≡ percent_decoding (cleaned (take used v))
-front_decoded {text} {place} {seen} {used} {v} f =
-    let size : length (take used v) ≡ used = length-take-le used v (omega (arith, block_long f, f.few, f.short)) in
-    ap₂ front_values (sym (take-append-drop used v)) (sym size) ∙ front_packed (take used v) (drop used v) (rest_digit f)
+front_decoded {text} {place} {size} {used} {v} f =
+    let long : length (take used v) ≡ used = length-take-le used v (omega (arith, block_long f, f.few, f.short)) in
+    ap₂ front_values (sym (take-append-drop used v)) (sym long) ∙ front_packed (take used v) (drop used v) (rest_digit f)
     ∙ (front_whole f).packed_is
 
 -- what the front is read as
-front_reads : {text : List ℕ} {place seen used : ℕ} {v : List ℕ} → IsFront text place seen v used
+front_reads : {text : List ℕ} {place size used : ℕ} {v : List ℕ} → IsFront text place size v used
     → Reads text place (place + used) (percent_decoding (cleaned (take used v)))
-front_reads {text} {place} {seen} {used} {v} f =
+front_reads {text} {place} {size} {used} {v} f =
     let x = take used v in
     let rest = drop (place + used) text in
     let w = front_whole f in
     let text_is : drop place text ≡ x ++ rest = sym (ap₂ (λ (a b : List ℕ). a ++ b) (front_is f)
     (ap (λ n. drop n text) (omega arith) ∙ sym (drop-drop used place text)) ∙ take-append-drop used (drop place text)) in
-    let size : length x ≡ used = length-take-le used v (omega (arith, block_long f, f.few, f.short)) in
+    let long : length x ≡ used = length-take-le used v (omega (arith, block_long f, f.few, f.short)) in
     record {
-      few = omega (arith, w.few, size);
-      within = omega (arith, f.within, f.few, f.some);
+      few = omega (arith, w.few, long);
+      within = omega (arith, f.within, f.few);
       body = ap plain_body text_is ∙ plain_is (x ++ rest) ∙ ap percent_decoding w.cleaned_is ∙ w.decoded_is
           ∙ ap (λ t. percent_decoding (cleaned x) ++ t) (sym (plain_is rest));
       after_is = ap (after 35) text_is ∙ w.after_is;
+    }
+
+-- the marks of the last bytes of a text
+pub rest_marks : (rest v : List ℕ) (marks : ℕ) → v ≡ rest ++ replicate (64 - length rest) 0
+    → marks ≡ mask_l (map is_marked v) → marks ≡ mask_l (map is_marked rest)
+rest_marks rest v marks is m =
+    m ∙ ap (λ t. mask_l (map is_marked t)) is ∙ marks_padded rest (64 - length rest)
+
+-- when they are read, the walk can go on there
+pub looking_rest : {s s' : Source} {b : Block} {place marks : ℕ} (rest : List ℕ) → Looking s b place 0 → b.seen ≤ place
+    → s'.text.now ≡ s.text.now → length s.text.now < place + 64 → rest ≡ drop place s.text.now
+    → marks ≡ mask_l (map is_marked rest) → s'.looks + place ≡ s.looks + length s.text.now
+    → Looking s' (record { base = place; seen = place + length rest; marks = marks }) place 0
+looking_rest {s} {s'} {b} {place} {marks} rest k l t few is m n =
+    let text = s.text.now in
+    let long : length rest ≡ length text - place = ap length is ∙ length-drop place text in
+    let seen = place + length rest in
+    let width : length rest ≡ seen - place = omega arith in
+    let all : rest ≡ slice_range text place seen =
+    sym (take_all (length rest) rest (omega arith)) ∙ ap₂ (λ j (x : List ℕ). take j x) width is in
+    record {
+      block = record {
+        base_le = omega arith;
+        seen_le = rw t (omega (arith, long, k.within));
+        short = omega (arith, long, few);
+        marks_are = m ∙ ap (λ x. mask_l (map is_marked x)) all
+            ∙ ap (λ x. mask_l (map is_marked (slice_range x place seen))) (sym t);
+      };
+      base_le = omega arith;
+      within = rw t k.within;
+      looks_are_paid = omega (arith, k.looks_are_paid, l, n, long, k.within, ap (λ x. paid x place) t);
     }
 
 -- the bytes of the block that was read last, which begins at the walk's index
@@ -222,39 +252,55 @@ whole_marks {c} {v} b w =
     b.marks_are ∙ ap (λ from. mask_l (map is_marked (slice_range (text_of c) from c.block.seen))) w.base_is
     ∙ ap (λ t. mask_l (map is_marked t)) (sym (whole_slice w))
 
--- its front
-pub front_of : {c : Cursor} {v : List ℕ} {used stops_are : ℕ} → IsBlock (text_of c) c.block.base c.block.seen c.block.marks
-    → IsWhole c v → stops_are ≡ mask_l (stops v) → used ≤ 64 → stops_are % 2 ^ used ≡ 0
-    → (used < 64 → stops_are / 2 ^ used % 2 ≡ 1) → IsFront (text_of c) c.place c.block.seen v used
-front_of {c} {v} {used} {stops_are} b w is few none stop =
-    let zero_is : 0 ≡ 64 - (c.block.seen - c.place) = omega (arith, w.seen_is) in
+-- the front of a whole block that was packed
+pub whole_front : {text v room room' : List ℕ} {place len used end : ℕ} → place + 64 ≤ length text
+    → v ≡ take 64 (drop place text) → IsPacked v 64 room room' len used end → IsFront text place 64 v used
+whole_front {text} {v} {room} {room'} {place} within is p = record {
+  few = p.few;
+  within = within;
+  some = lit< tt;
+  short = lit≤ tt;
+  ends = λ h. absurd (omega (arith, h));
+  bytes_are = is ∙ sym (append-nil (take 64 (drop place text)));
+  none = p.none;
+  stop = p.stop;
+}
+
+-- the front of the last bytes of a text that were packed
+pub last_front : {text rest room room' : List ℕ} {place len used end : ℕ} → place < length text
+    → length text < place + 64 → rest ≡ drop place text
+    → IsPacked (rest ++ replicate (64 - length rest) 0) (length rest) room room' len used end
+    → IsFront text place (length rest) (rest ++ replicate (64 - length rest) 0) used
+last_front {text} {rest} {room} {room'} {place} some few is p =
+    let long : length rest ≡ length text - place = ap length is ∙ length-drop place text in
+    let all : rest ≡ take (length rest) (drop place text) =
+    sym (take_all (length rest) rest (omega arith)) ∙ ap (take (length rest)) is in
     record {
-      few = omega (arith, w.seen_is, few);
-      within = b.seen_le;
-      some = omega (arith, w.seen_is);
-      short = omega (arith, w.seen_is);
-      ends = λ h. absurd (omega (arith, h, w.seen_is));
-      bytes_are = whole_slice w ∙ sym (append-nil (slice_range (text_of c) c.place c.block.seen))
-          ∙ ap (λ n. slice_range (text_of c) c.place c.block.seen ++ replicate n 0) zero_is;
-      none = ap (λ n. n % 2 ^ used) (sym is) ∙ none;
-      stop = λ l. ap (λ n. n / 2 ^ used % 2) (sym is) ∙ stop (omega (arith, l, w.seen_is));
+      few = p.few;
+      within = omega (arith, long);
+      some = omega (arith, long);
+      short = omega (arith, long);
+      ends = λ h. omega (arith, long);
+      bytes_are = ap (λ (t : List ℕ). t ++ replicate (64 - length rest) 0) all;
+      none = p.none;
+      stop = p.stop;
     }
 
 -- the walk gathers the front
-pub gathers_front : {c c' : Cursor} {v room room' : List ℕ} {len end used : ℕ} → IsFront (text_of c) c.place c.block.seen v used → c'.source ≡ c.source → c'.place ≡ c.place + used
-    → len ≤ length room → end ≤ length room' → take end room' ≡ take len room ++ front_values v used
-    → Gathers c c' room room' len end
-gathers_front {c} {c'} {v} {room} {room'} {len} {end} {used} f s p within fits put =
-    let all = put ∙ ap (λ t. take len room ++ t) (front_decoded f) in
+pub gathers_front : {c c' : Cursor} {v room room' : List ℕ} {size len end used : ℕ} → IsFront (text_of c) c.place size v used
+    → IsPacked v size room room' len used end → LooksOn c.source c'.source → c'.place ≡ c.place + used
+    → length room ≡ 512 → length room' ≡ 512 → len ≤ 384 → Gathers c c' room room' len end
+gathers_front {c} {c'} {v} {room} {room'} {size} {len} {end} {used} f q on p long long' few =
+    let all = q.room_is ∙ ap (λ t. take len room ++ t) (front_decoded f) in
     let r = front_reads f in
     record {
       bytes = percent_decoding (cleaned (take used v));
-      on = record { text_stays = ap (λ x. x.text.now) s; looks_grow = omega (arith, ap (λ x. x.looks) s) };
+      on = on;
       reads = subst (λ to. Reads (text_of c) c.place to (percent_decoding (cleaned (take used v)))) (sym p) r;
       room_is = all;
-      len_is = sym (length-take-le end room' fits) ∙ ap length all
+      len_is = sym (length-take-le end room' (omega (arith, long', few, q.short))) ∙ ap length all
           ∙ length-append (take len room) (percent_decoding (cleaned (take used v)))
-          ∙ ap (λ n. n + length (percent_decoding (cleaned (take used v)))) (length-take-le len room within);
+          ∙ ap (λ n. n + length (percent_decoding (cleaned (take used v)))) (length-take-le len room (omega (arith, long, few)));
     }
 
 -- the walk goes on after the front, and what is left of its block is read again, if that is not longer than the front
@@ -277,103 +323,4 @@ looking_again {s} {b} {place} {used} k l few =
       base_le = omega arith;
       within = within;
       looks_are_paid = omega (arith, k.looks_are_paid, paid_on text place (place + used) (omega arith), l, few);
-    }
-
--- The rest of a text
-
--- the rest of a text without a stop, as a block
-rest_front : (rest v : List ℕ) → 0 < length rest → length rest < 64 → v ≡ rest ++ replicate (64 - length rest) 0
-    → mask_l (stops v) % 2 ^ length rest ≡ 0 → IsFront rest 0 (length rest) v (length rest)
-rest_front rest v some few is none =
-    let all : slice_range rest 0 (length rest) ≡ rest = take_all (length rest - 0) rest (omega arith) in
-    let size : length rest ≡ length rest - 0 = omega arith in
-    record {
-      few = omega arith;
-      within = omega arith;
-      some = some;
-      short = omega (arith, few);
-      ends = λ h. refl;
-      bytes_are = is ∙ ap₂ (λ (t : List ℕ) n. t ++ replicate (64 - n) 0) (sym all) size;
-      none = none;
-      stop = λ l. absurd (omega (arith, l));
-    }
-
--- its marks
-pub rest_marks : (rest v : List ℕ) (marks : ℕ) → v ≡ rest ++ replicate (64 - length rest) 0
-    → marks ≡ mask_l (map is_marked v) → marks ≡ mask_l (map is_marked rest)
-rest_marks rest v marks is m =
-    m ∙ ap (λ t. mask_l (map is_marked t)) is ∙ marks_padded rest (64 - length rest)
-
--- it is packed
-pub rest_packed : (rest v room room' : List ℕ) (stops_are len end : ℕ) → 0 < length rest → length rest < 64
-    → v ≡ rest ++ replicate (64 - length rest) 0 → stops_are ≡ mask_l (stops v) → stops_are % 2 ^ length rest ≡ 0
-    → len ≤ length room → end ≤ length room' → take end room' ≡ take len room ++ front_values v (length rest)
-    → IsLast rest room room' len end
-rest_packed rest v room room' stops_are len end some few is ss none within fits put =
-    let f = rest_front rest v some few is (ap (λ n. n % 2 ^ length rest) (sym ss) ∙ none) in
-    let r = front_reads f in
-    let front : take (length rest) v ≡ rest = front_is f ∙ take_all (length rest) rest (omega arith) in
-    let body : percent_decoding (cleaned (take (length rest) v)) ≡ plain_body rest =
-    ap (λ s. percent_decoding (cleaned s)) front ∙ sym (plain_is rest) in
-    let all = put ∙ ap (λ t. take len room ++ t) (front_decoded f ∙ body) in
-    let over : drop (0 + length rest) rest ≡ [] = drop_all (0 + length rest) rest (omega arith) in
-    record {
-      few = omega (arith, r.few, ap length body);
-      room_is = all;
-      len_is = sym (length-take-le end room' fits) ∙ ap length all ∙ length-append (take len room) (plain_body rest)
-          ∙ ap (λ n. n + length (plain_body rest)) (length-take-le len room within);
-      after_is = r.after_is ∙ ap (after 35) over ∙ after_nil 35;
-    }
-
--- the walk can go on there, or at its end
-pub looking_rest : {s s' : Source} {b : Block} {place marks seen : ℕ} (to : ℕ) → Looking s b place 0 → b.seen ≤ place
-    → s'.text.now ≡ s.text.now → length s.text.now < place + 64 → marks ≡ mask_l (map is_marked (drop place s.text.now))
-    → s'.looks + place ≡ s.looks + length s.text.now → seen ≡ length s'.text.now → place ≤ to → to ≤ seen
-    → Looking s' (record { base = place; seen = seen; marks = marks }) to 0
-looking_rest {s} {s'} {b} {place} {marks} {seen} to k l t few m n e from within =
-    let text = s.text.now in
-    let size : seen ≡ length text = e ∙ ap length t in
-    let all : slice_range text place seen ≡ drop place text =
-    take_all (seen - place) (drop place text) (omega (arith, length-drop place text, size)) in
-    record {
-      block = record {
-        base_le = omega (arith, from, within);
-        seen_le = omega (arith, e);
-        short = omega (arith, size, few);
-        marks_are = m ∙ ap (λ x. mask_l (map is_marked x)) (sym all)
-            ∙ ap (λ x. mask_l (map is_marked (slice_range x place seen))) (sym t);
-      };
-      base_le = from;
-      within = omega (arith, e, within);
-      looks_are_paid = omega (
-        arith,
-        k.looks_are_paid,
-        l,
-        n,
-        size,
-        paid_on text place to from,
-        ap (λ x. paid x to) t,
-      );
-    }
-
--- the walk gathers it
-pub gathers_rest : {c c' : Cursor} {rest room room' : List ℕ} {len end : ℕ} → IsLast rest room room' len end
-    → rest ≡ drop c.place (text_of c) → c.place ≤ length (text_of c) → LooksOn c.source c'.source
-    → c'.place ≡ length (text_of c) → Gathers c c' room room' len end
-gathers_rest {c} {c'} {rest} {room} {room'} {len} {end} l is within on p =
-    let text = text_of c in
-    let over : drop (length text) text ≡ [] = drop_all (length text) text (omega arith) in
-    let none : plain_body [] ≡ [] = plain_is [] ∙ ap percent_decoding cleaned_nil ∙ percent_nil in
-    record {
-      bytes = plain_body rest;
-      on = on;
-      reads = subst (λ to. Reads text c.place to (plain_body rest)) (sym p) (record {
-        few = omega (arith, l.few, ap length is, length-drop c.place text, within);
-        within = omega arith;
-        body = ap plain_body (sym is) ∙ sym (append-nil (plain_body rest))
-            ∙ ap (λ t. plain_body rest ++ t) (sym (ap plain_body over ∙ none));
-        after_is = ap (after 35) (sym is) ∙ l.after_is ∙ sym (ap (after 35) over ∙ after_nil 35);
-      });
-      room_is = l.room_is;
-      len_is = l.len_is;
     }

@@ -1,5 +1,5 @@
 -- A walk over the text of a body: what its steps find, and what stays true.
-use Rattle.std.specs.Prelude.{◌*◌, ◌++◌, ◌+◌, ◌-◌, ◌<◌, ◌∷◌, ◌≡◌, ◌≤◌, Bool, IfNone, IfSome, List, MatchBool, None, Option, [], drop, false, length, map, slice_index, slice_range, take, true, ℕ}
+use Rattle.std.specs.Prelude.{◌*◌, ◌++◌, ◌+◌, ◌-◌, ◌<◌, ◌∷◌, ◌≡◌, ◌≤◌, Bool, IfNone, IfSome, List, MatchBool, Option, [], drop, false, length, map, slice_index, slice_range, take, true, ℕ}
 use Rattle.std.specs.Simd.Lanes.{mask_l}
 use Rattle.data_url.specs.Fetch.{plain_body}
 use Rattle.data_url.specs.Pieces.{IsPiece, bytes_of, bytes_of_next, has_ended, is_slice_end, text_of}
@@ -161,13 +161,6 @@ pub record IsWhole (c : Cursor) (bytes : List ℕ) : Type 0 where
   pub base_is : c.block.base ≡ c.place
   pub seen_is : c.block.seen ≡ c.place + 64
   pub bytes_are : bytes ≡ take 64 (drop c.place (text_of c))
-
--- the rest of a text, which has no fragment, is appended to a buffer as it is read
-pub record IsLast (rest room room' : List ℕ) (len end : ℕ) : Type 0 where
-  pub few : length (plain_body rest) ≤ length rest
-  pub room_is : take end room' ≡ take len room ++ plain_body rest
-  pub len_is : end ≡ len + length (plain_body rest)
-  pub after_is : after number_sign rest ≡ None
 
 -- the walk went on, or its body ends
 abbrev pub Moves : Cursor → Cursor → Type 0

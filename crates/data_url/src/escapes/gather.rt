@@ -123,10 +123,10 @@ impl<'a> Cursor<'a> {
                 if self.block.marks.count_ones() < SEVERAL {
                     return self.gather_sparse(room, len);
                 }
-                if let Some(more) = self.pack_marked(bytes, room, len) {
+                if let Some(more) = self.pack_whole(bytes, room, len) {
                     return Some(more);
                 }
-            } else if let Some(more) = self.pack_next(room, len) {
+            } else if let Some(more) = self.pack_end(room, len) {
                 return Some(more);
             }
         }

@@ -2,12 +2,11 @@
 
 #![tactic(auto, using(crate::proofs::escapes::Walking::walks))]
 
-ghost use Rattle.std.specs.Prelude.{◌≡◌, ◌+◌, ◌++◌, ◌==◌, ◌<◌, ◌≤◌, IfNone, IfSome, length, map, take};
+ghost use Rattle.std.specs.Prelude.{◌≡◌, ◌+◌, ◌-◌, ◌++◌, ◌<◌, ◌≤◌, IfNone, IfSome, length, map, replicate};
 ghost use Rattle.std.specs.Simd.Lanes.{mask_l};
 ghost use Rattle.data_url.specs.Pieces.{text_of};
-ghost use Rattle.data_url.specs.Steps.Escapes.{front_values};
-ghost use Rattle.data_url.specs.Url.{is_tab_or_newline, percent_sign};
-ghost use Rattle.data_url.specs.Steps.Walk.{Gathers, IsLast, IsWhole, Looking, LooksOn, MayGather};
+ghost use Rattle.data_url.specs.Steps.Escapes.{IsPacked};
+ghost use Rattle.data_url.specs.Steps.Walk.{Gathers, IsWhole, Looking, LooksOn, MayGather};
 ghost use Rattle.data_url.specs.Steps.Window.{is_marked};
 
 use super::cursor::{Ahead, Cursor};
@@ -52,66 +51,9 @@ impl<'a> Cursor<'a> {
         bytes
     }
 
-    /// Reads the next block, after which no whole one follows, and packs it if it has several marks. Returns how many bytes are
-    /// gathered then, or None if the block is not packed.
+    /// Packs the block up to its first stop. Returns how many bytes are gathered then, or None if it packs nothing.
     #[inline(always)]
-    pub(super) fn pack_next(&mut self, room: &mut [u8; BUFFER_LEN], len: usize) -> Option<usize>
-        requires looking { Looking self.old.source self.old.block self.old.place 0 }
-        requires unknown { self.old.ahead ≡ Ahead.Unknown }
-        requires some { self.old.place < length (text_of self.old) }
-        requires unseen { self.old.block.seen ≤ self.old.place }
-        requires room { len ≤ 384 }
-        ensures looking { Looking self.new.source self.new.block self.new.place 0 }
-        ensures unknown { self.new.ahead ≡ Ahead.Unknown }
-        ensures on { LooksOn self.old.source self.new.source }
-        ensures packed { IfSome result (λ n. Gathers self.old self.new room.old room.new len n × (n ≤ 512)
-            × (self.old.place < self.new.place)) }
-        ensures read { IfNone result ((room.new ≡ room.old) × (self.new.place ≡ self.old.place)
-            × (self.new.place < self.new.block.seen)) }
-    {
-        if self.source.len() - self.place < BLOCK {
-            return self.pack_rest(room, len);
-        }
-        let bytes = self.look_whole();
-        if self.block.marks.count_ones() < SEVERAL {
-            return None;
-        }
-        self.pack_marked(bytes, room, len)
-    }
-
-    /// Packs the rest of the text, which is shorter than a block, if it has several marks and no stop.
-    #[inline(always)]
-    fn pack_rest(&mut self, room: &mut [u8; BUFFER_LEN], len: usize) -> Option<usize>
-        requires looking { Looking self.old.source self.old.block self.old.place 0 }
-        requires unknown { self.old.ahead ≡ Ahead.Unknown }
-        requires rest { (self.old.place < length (text_of self.old))
-            × (length (text_of self.old) < self.old.place + 64) }
-        requires unseen { self.old.block.seen ≤ self.old.place }
-        requires room { len ≤ 384 }
-        ensures looking { Looking self.new.source self.new.block self.new.place 0 }
-        ensures on { LooksOn self.old.source self.new.source }
-        ensures gathers { IfSome result (λ n. Gathers self.old self.new room.old room.new len n × (n ≤ 512)
-            × (self.old.place < self.new.place)) }
-        ensures ahead { self.new.ahead ≡ self.old.ahead }
-        ensures none { IfNone result ((room.new ≡ room.old) × (self.new.place ≡ self.old.place)
-            × (self.new.place < self.new.block.seen)) }
-    {
-        let rest = self.source.look_rest(self.place);
-        let (marks, packed) = pack_last(rest, room, len);
-        self.block = Block {
-            base: self.place,
-            seen: self.source.len(),
-            marks,
-        };
-        let end = packed?;
-        self.place = self.block.seen;
-        Some(end)
-    }
-
-    /// Gathers the block up to its first stop in lanes. Returns None, and gathers nothing, if there are only few bytes before
-    /// the stop.
-    #[inline(always)]
-    pub(super) fn pack_marked(
+    pub(super) fn pack_whole(
         &mut self,
         bytes: u8x64,
         room: &mut [u8; BUFFER_LEN],
@@ -127,13 +69,40 @@ impl<'a> Cursor<'a> {
         ensures none { IfNone result ((self.new ≡ self.old) × (room.new ≡ room.old)) }
     {
         let _len = self.source.len();
-        let percents = bits_of(bytes, b'%');
-        let (passed, stops) = stops_of(bytes, self.block.marks, percents);
-        let used = len_before_stop(stops, BLOCK);
-        if used < FEW {
-            return None;
+        let (used, end) = pack_to_stop(bytes, self.block.marks, BLOCK, room, len)?;
+        self.pass_front(used);
+        Some(end)
+    }
+
+    /// Reads the next block, after which no whole one follows, and packs it up to its first stop. Returns how many bytes are
+    /// gathered then, or None if it packs nothing.
+    #[inline(always)]
+    pub(super) fn pack_end(&mut self, room: &mut [u8; BUFFER_LEN], len: usize) -> Option<usize>
+        requires looking { Looking self.old.source self.old.block self.old.place 0 }
+        requires unknown { self.old.ahead ≡ Ahead.Unknown }
+        requires some { self.old.place < length (text_of self.old) }
+        requires unseen { self.old.block.seen ≤ self.old.place }
+        requires room { len ≤ 384 }
+        ensures looking { Looking self.new.source self.new.block self.new.place 0 }
+        ensures unknown { self.new.ahead ≡ Ahead.Unknown }
+        ensures on { LooksOn self.old.source self.new.source }
+        ensures packed { IfSome result (λ n. Gathers self.old self.new room.old room.new len n × (n ≤ 512)
+            × (self.old.place < self.new.place)) }
+        ensures none { IfNone result ((room.new ≡ room.old) × (self.new.place ≡ self.old.place)
+            × (self.new.place < self.new.block.seen)) }
+    {
+        if self.source.len() - self.place >= BLOCK {
+            let bytes = self.look_whole();
+            return self.pack_whole(bytes, room, len);
         }
-        let end = pack_front(bytes, percents, passed, used, room, len);
+        let rest = self.source.look_rest(self.place);
+        let (marks, packed) = pack_last(rest, room, len);
+        self.block = Block {
+            base: self.place,
+            seen: self.place + rest.len(),
+            marks,
+        };
+        let (used, end) = packed?;
         self.pass_front(used);
         Some(end)
     }
@@ -162,51 +131,50 @@ impl<'a> Cursor<'a> {
     }
 }
 
-/// Packs the first `used` bytes of a block after `len` bytes: the values of its escapes, and the other bytes but tabs and
-/// newlines. Returns how many bytes are gathered then. `percents` has a bit for each `%`, and `passed` one for each tab and
-/// newline.
+/// Packs the first `size` bytes of a block up to its first stop, after `len` bytes: the values of its escapes, and the other bytes
+/// but tabs and newlines. Returns how many come before the stop, and how many bytes are gathered then. Returns None, and packs
+/// nothing, if the block has few marks or only few bytes come before the stop.
 #[inline(always)]
-fn pack_front(
+fn pack_to_stop(
     bytes: u8x64,
-    percents: u64,
-    passed: u64,
-    used: usize,
+    marks: u64,
+    size: usize,
     room: &mut [u8; BUFFER_LEN],
     len: usize,
-) -> usize
-    requires percents { percents ≡ mask_l (map (λ b. b == percent_sign) bytes) }
-    requires passed { passed ≡ mask_l (map is_tab_or_newline bytes) }
-    requires used { (0 < used) × (used ≤ 64) }
+) -> Option<(usize, usize)>
+    requires marks { marks ≡ mask_l (map is_marked bytes) }
+    requires size { size ≤ 64 }
     requires room { len ≤ 384 }
-    ensures few { result ≤ len + 64 }
-    ensures packed { take result room.new ≡ take len room.old ++ front_values bytes used }
+    ensures none { IfNone result (room.new ≡ room.old) }
+    ensures packed { IfSome result (λ p. IsPacked bytes size room.old room.new len p.0 p.1) }
 {
-    let (values, starts) = decode_escapes(bytes, percents);
-    let front = u64::MAX >> (BLOCK - used);
-    let dropped = ((6 * starts + passed) & front) + !front;
-    pack_block(values, dropped, &mut room[..], len)
-}
-
-/// Returns the marks of the last bytes of a text, which are fewer than 64. If they are several, the bytes not few, and there is
-/// no stop, the bytes are packed. Then also returns how many are gathered.
-#[inline(never)]
-fn pack_last(rest: &[u8], room: &mut [u8; BUFFER_LEN], len: usize) -> (u64, Option<usize>)
-    requires rest { (0 < length rest.now) × (length rest.now < 64) }
-    requires room { len ≤ 384 }
-    ensures marks { result.0 ≡ mask_l (map is_marked rest.now) }
-    ensures none { IfNone result.1 (room.new ≡ room.old) }
-    ensures packed { IfSome result.1 (λ end. (end ≤ 512) × IsLast rest.now room.old room.new len end) }
-{
-    let bytes = padded(rest);
-    let marks = marks_of(bytes, false);
-    if rest.len() < FEW || marks.count_ones() < SEVERAL {
-        return (marks, None);
+    if marks.count_ones() < SEVERAL {
+        return None;
     }
     let percents = bits_of(bytes, b'%');
     let (passed, stops) = stops_of(bytes, marks, percents);
-    if len_before_stop(stops, rest.len()) < rest.len() {
-        return (marks, None);
+    let used = len_before_stop(stops, size);
+    if used < FEW {
+        return None;
     }
-    let end = pack_front(bytes, percents, passed, rest.len(), room, len);
-    (marks, Some(end))
+    let (values, starts) = decode_escapes(bytes, percents);
+    let front = u64::MAX >> (BLOCK - used);
+    let dropped = ((6 * starts + passed) & front) + !front;
+    Some((used, pack_block(values, dropped, &mut room[..], len)))
+}
+
+/// Does what `pack_to_stop` does, with the last bytes of a text, which are fewer than 64. Also returns their marks. It is not
+/// inlined, and does not see the walk, so that the walk can stay in registers.
+#[inline(never)]
+fn pack_last(rest: &[u8], room: &mut [u8; BUFFER_LEN], len: usize) -> (u64, Option<(usize, usize)>)
+    requires rest { length rest.now < 64 }
+    requires room { len ≤ 384 }
+    ensures marks { result.0 ≡ mask_l (map is_marked rest.now) }
+    ensures none { IfNone result.1 (room.new ≡ room.old) }
+    ensures packed { IfSome result.1 (λ p. IsPacked (rest.now ++ replicate (64 - length rest.now) 0)
+        (length rest.now) room.old room.new len p.0 p.1) }
+{
+    let bytes = padded(rest);
+    let marks = marks_of(bytes, false);
+    (marks, pack_to_stop(bytes, marks, rest.len(), room, len))
 }
