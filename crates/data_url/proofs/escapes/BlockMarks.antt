@@ -1,4 +1,5 @@
--- Blocks of a text and their marks: lanes that are looked up in a table and compared. For `marks_of`, `look_block` and `next_mark`.
+-- Blocks of a text and their marks: lanes that are looked up in a table and compared. For `marks_of`, `look_block`
+-- and `next_mark`.
 use Rattle.std.proofs.Common.{List, [], ◌∷◌, ◌++◌, length, drop, get_or, refl, sym, ap, ◌∙◌, arith}
 use Rattle.std.proofs.Common.{bit_and, w8, Fits, ◌≢◌, inl, inr, ◌==◌, slice_range, take_all, length-take-le}
 use Rattle.std.proofs.Common.{take-take}

@@ -1,4 +1,5 @@
--- The codes of hexadecimal digits in the lanes of a block, and the escapes that begin there. For `hex_codes` and `decode_escapes`.
+-- The codes of hexadecimal digits in the lanes of a block, and the escapes that begin there. For `hex_codes` and
+-- `decode_escapes`.
 use Rattle.std.proofs.Common.{List, [], ◌∷◌, ◌++◌, map, ◌≡◌, ℕ, ◌<◌, ◌≤◌, ltb, true, false, cond, eqb, suc}
 use Rattle.std.proofs.Common.{length, take, drop, w8, ap, ◌+◌, ◌*◌, ◌-◌, ◌%◌, ◌^◌, Bool, refl, sym, ◌∙◌, arith}
 use Rattle.std.proofs.Common.{bit_or, ap₂, ◌&&◌, length-append, lit≤, subst}
@@ -65,8 +66,10 @@ by_test false value code h = (λ e. absurd (true≢false (sym e)), λ e. leb-tru
 
 code_is : (b : ℕ) → b < 256 → IsHexCode b (computed_code b)
 code_is b l =
-    let t = by_test (is_ascii_hexdigit b) (digit_value b) (computed_code b) (agree_below_at (λ b. cond (is_ascii_hexdigit b)
-    (eqb (computed_code b) (digit_value b) && ltb (computed_code b) 16) (leb 16 (computed_code b))) (λ b. true) 256 b refl l) in
+    let t = by_test (is_ascii_hexdigit b) (digit_value b) (computed_code b) (agree_below_at (λ b. cond
+    (is_ascii_hexdigit b)
+    (eqb (computed_code b) (digit_value b) && ltb (computed_code b) 16) (leb 16 (computed_code b))) (λ b. true) 256
+    b refl l) in
     record { digit = t.0; other = t.1 }
 
 codes_right : (v : List ℕ) → Each1 (Fits w8) v → AreHexCodes v (map computed_code v)
@@ -234,7 +237,8 @@ value_first p (q ∷ []) each =
     ap (λ t. cond t (add8 (q.1 * 2 ^ 4 % 256) 255) p.0) (starts_first p (q ∷ []) each)
 value_first p (q ∷ r ∷ ps) each =
     ap (λ t. cond t (add8 (q.1 * 2 ^ 4 % 256) r.1) p.0) (starts_first p (q ∷ r ∷ ps) each)
-    ∙ value_by (begins_with_escape (p.0 ∷ q.0 ∷ r.0 ∷ bytes ps)) (is_ascii_hexdigit q.0) (is_ascii_hexdigit r.0) p.0 _ _ _ _
+    ∙ value_by (begins_with_escape (p.0 ∷ q.0 ∷ r.0 ∷ bytes ps)) (is_ascii_hexdigit q.0) (is_ascii_hexdigit r.0)
+    p.0 _ _ _ _
     (code_of each.0) (code_of each.1.0) (λ e. (and_parts (eqb p.0 37) _ e).1)
 
 -- there are as many places where an escape may begin as bytes
@@ -264,7 +268,8 @@ codes_from k codes = pick_l 0 (codes ++ replicate 64 255) (range_with_len k 64)
 shifted : (codes : List ℕ) (k : ℕ) → length codes ≡ 64 → k ≤ 2
     → codes_from k codes ≡ take 64 (drop k (codes ++ replicate 64 255))
 shifted codes k long few =
-    let size : length (codes ++ replicate 64 255) ≡ 128 = length-append codes (replicate 64 255) ∙ ap (λ n. n + 64) long in
+    let size : length (codes ++ replicate 64 255) ≡ 128 = length-append codes (replicate 64 255)
+    ∙ ap (λ n. n + 64) long in
     pick_l-range_with_len 0 (codes ++ replicate 64 255) k 64 (omega (arith, size, few))
 
 -- a text has as many windows as bytes
@@ -291,9 +296,11 @@ lanes_are v codes long are =
       bytes_are = c.bytes_are;
       each = c.each;
       many = length-windows ps ∙ many;
-      high_is = shifted codes 1 size (lit≤ tt) ∙ ap₂ (λ n t. take n (drop 1 (t ++ replicate 64 255))) (sym many) c.codes_are
+      high_is = shifted codes 1 size (lit≤ tt) ∙ ap₂ (λ n t. take n (drop 1 (t ++ replicate 64 255))) (sym many)
+          c.codes_are
           ∙ highs ps (replicate 63 255);
-      low_is = shifted codes 2 size (lit≤ tt) ∙ ap₂ (λ n t. take n (drop 2 (t ++ replicate 64 255))) (sym many) c.codes_are
+      low_is = shifted codes 2 size (lit≤ tt) ∙ ap₂ (λ n t. take n (drop 2 (t ++ replicate 64 255))) (sym many)
+          c.codes_are
           ∙ lows ps (replicate 62 255);
     }
 
@@ -301,7 +308,8 @@ lanes_are v codes long are =
 abbrev pub start_lanes : List ℕ → List ℕ → List ℕ → List Bool
 start_lanes v high low =
     map (top 7) (zip2 (λ a b. cond (ltb a b) 255 0)
-    (sel_l (map (top 7) (zip2 (λ a b. cond (eqb a b) 255 0) v (replicate 64 37))) (zip2 bit_or high low) (replicate 64 255))
+    (sel_l (map (top 7) (zip2 (λ a b. cond (eqb a b) 255 0) v (replicate 64 37))) (zip2 bit_or high low) (replicate
+    64 255))
     (replicate 64 16))
 
 starts_computed : {v high low : List ℕ} {ps : List Coded} → AreLanes v high low ps

@@ -31,7 +31,8 @@ use Rattle.data_url.specs.declared.{escapes.source.Source.{Source}, escapes.stop
 use Rattle.std.proofs.lemmas.List.{drop_more, get_or-drop, get_or-take, length-replicate, length-drop}
 use lib.Lanes.{mask_l}
 use Rattle.data_url.proofs.escapes.WholeEscapes.{Whole, dropped, is_open, whole}
-use Rattle.data_url.proofs.escapes.StopBits.{and_false, bit_set, front_packed, front_written, length-places, length-stops, open_none, simple_front}
+use Rattle.data_url.proofs.escapes.StopBits.{and_false, bit_set, front_packed, front_written}
+use Rattle.data_url.proofs.escapes.StopBits.{length-places, length-stops, open_none, simple_front}
 use Rattle.data_url.specs.Steps.Escapes.{IsPacked}
 use Rattle.std.proofs.Common.{lit<, lit≤}
 use Rattle.data_url.specs.Steps.Walk.{LooksOn}
@@ -41,13 +42,14 @@ use Rattle.data_url.specs.Steps.Walk.{LooksOn}
 -- a byte at which a stop is, is no tab or newline and no digit
 stop_byte : (b : ℕ) (u : Bool) → ((b == 35) || ((b == 37) && u)) ≡ true
     → (is_tab_or_newline b ≡ false) × (is_ascii_hexdigit b ≡ false)
-stop_byte b u h = elim (b == 35) as (λ p. (b == 35) ≡ p → (is_tab_or_newline b ≡ false) × (is_ascii_hexdigit b ≡ false)) [
-  | true ↦ λ p. let is = eqb-true b 35 p in (ap is_tab_or_newline is, ap is_ascii_hexdigit is)
-  | false ↦ λ p.
-      let both : ((b == 37) && u) ≡ true = ap (λ x. x || ((b == 37) && u)) (sym p) ∙ h in
-      let is = eqb-true b 37 (and_parts (b == 37) u both).0 in
-      (ap is_tab_or_newline is, ap is_ascii_hexdigit is)
-] refl
+stop_byte b u h = elim (b == 35) as (λ p. (b == 35) ≡ p
+    → (is_tab_or_newline b ≡ false) × (is_ascii_hexdigit b ≡ false)) [
+      | true ↦ λ p. let is = eqb-true b 35 p in (ap is_tab_or_newline is, ap is_ascii_hexdigit is)
+      | false ↦ λ p.
+          let both : ((b == 37) && u) ≡ true = ap (λ x. x || ((b == 37) && u)) (sym p) ∙ h in
+          let is = eqb-true b 37 (and_parts (b == 37) u both).0 in
+          (ap is_tab_or_newline is, ap is_ascii_hexdigit is)
+    ] refl
 
 stop_there : (s : List ℕ) (k : ℕ) → get_or (stops s) k false ≡ true
     → (is_tab_or_newline (get_or s k 0) ≡ false) × (is_ascii_hexdigit (get_or s k 0) ≡ false)
@@ -60,7 +62,8 @@ zeros_digit : (k : ℕ) → begins_with_digit (replicate k 0) ≡ false
 zeros_digit zero = refl
 zeros_digit (suc k) = refl
 
--- a block of the text at an index, of at most 64 bytes, with zeros after the end of the text, and how many bytes come before its
+-- a block of the text at an index, of at most 64 bytes, with zeros after the end of the text, and how many bytes come
+-- before its
 -- first stop
 pub record IsFront (text : List ℕ) (place size : ℕ) (v : List ℕ) (used : ℕ) : Type 0 where
   pub few : used ≤ size
@@ -75,7 +78,11 @@ pub record IsFront (text : List ℕ) (place size : ℕ) (v : List ℕ) (used : �
 -- the bytes of the text in a block
 slice_long : {text : List ℕ} {place size used : ℕ} {v : List ℕ} → IsFront text place size v used
     → length (take size (drop place text)) ≡ size
-slice_long {text} {place} {size} f = length-take-le size (drop place text) (omega (arith, length-drop place text, f.within))
+slice_long {text} {place} {size} f = length-take-le size (drop place text) (omega (
+  arith,
+  length-drop place text,
+  f.within,
+))
 
 block_long : {text : List ℕ} {place size used : ℕ} {v : List ℕ} → IsFront text place size v used → length v ≡ 64
 block_long {text} {place} {size} f =
@@ -167,7 +174,8 @@ front_bits bits used l =
     let front : (2 ^ 64 - 1) / b ≡ a - 1 =
     ap (λ n. n / b) (ap (λ n. n - 1) (sym turned) ∙ mul_pred (pow_pos used) (pow_pos (64 - used)))
     ∙ div-mul-add (a - 1) b (b - 1) (omega (arith, pow_pos (64 - used))) in
-    let rest : 2 ^ 64 - 1 ≡ (b - 1) * a + (a - 1) = ap (λ n. n - 1) (sym all) ∙ mul_pred (pow_pos (64 - used)) (pow_pos used) in
+    let rest : 2 ^ 64 - 1 ≡ (b - 1) * a + (a - 1) = ap (λ n. n - 1) (sym all)
+    ∙ mul_pred (pow_pos (64 - used)) (pow_pos used) in
     let low : bit_and bits (a - 1) ≡ bits % a = and_mask bits used in
     omega (arith, ap (bit_and bits) front, front, low, rest)
 
@@ -187,7 +195,8 @@ front_decoded : {text : List ℕ} {place size used : ℕ} {v : List ℕ} → IsF
     → front_values v used ≡ percent_decoding (cleaned (take used v))
 front_decoded {text} {place} {size} {used} {v} f =
     let long : length (take used v) ≡ used = length-take-le used v (omega (arith, block_long f, f.few, f.short)) in
-    ap₂ front_values (sym (take-append-drop used v)) (sym long) ∙ front_packed (take used v) (drop used v) (rest_digit f)
+    ap₂ front_values (sym (take-append-drop used v)) (sym long)
+    ∙ front_packed (take used v) (drop used v) (rest_digit f)
     ∙ (front_whole f).packed_is
 
 -- what the front is read as
@@ -198,7 +207,8 @@ front_reads {text} {place} {size} {used} {v} f =
     let rest = drop (place + used) text in
     let w = front_whole f in
     let text_is : drop place text ≡ x ++ rest = sym (ap₂ (λ (a b : List ℕ). a ++ b) (front_is f)
-    (ap (λ n. drop n text) (omega arith) ∙ sym (drop-drop used place text)) ∙ take-append-drop used (drop place text)) in
+    (ap (λ n. drop n text) (omega arith) ∙ sym (drop-drop used place text))
+    ∙ take-append-drop used (drop place text)) in
     let long : length x ≡ used = length-take-le used v (omega (arith, block_long f, f.few, f.short)) in
     record {
       few = omega (arith, w.few, long);
@@ -287,7 +297,8 @@ last_front {text} {rest} {room} {room'} {place} some few is p =
     }
 
 -- the walk gathers the front
-pub gathers_front : {c c' : Cursor} {v room room' : List ℕ} {size len end used : ℕ} → IsFront (text_of c) c.place size v used
+pub gathers_front : {c c' : Cursor} {v room room' : List ℕ} {size len end used : ℕ}
+    → IsFront (text_of c) c.place size v used
     → IsPacked v size room room' len used end → LooksOn c.source c'.source → c'.place ≡ c.place + used
     → length room ≡ 512 → length room' ≡ 512 → len ≤ 384 → Gathers c c' room room' len end
 gathers_front {c} {c'} {v} {room} {room'} {size} {len} {end} {used} f q on p long long' few =
@@ -300,7 +311,11 @@ gathers_front {c} {c'} {v} {room} {room'} {size} {len} {end} {used} f q on p lon
       room_is = all;
       len_is = sym (length-take-le end room' (omega (arith, long', few, q.short))) ∙ ap length all
           ∙ length-append (take len room) (percent_decoding (cleaned (take used v)))
-          ∙ ap (λ n. n + length (percent_decoding (cleaned (take used v)))) (length-take-le len room (omega (arith, long, few)));
+          ∙ ap (λ n. n + length (percent_decoding (cleaned (take used v)))) (length-take-le len room (omega (
+            arith,
+            long,
+            few,
+          )));
     }
 
 -- the walk goes on after the front, and what is left of its block is read again, if that is not longer than the front

@@ -1,4 +1,5 @@
--- The bits of the stops of a block, and what they say of the bytes before the first one. For `stops_of`, `len_before_stop` and `pack_to_stop`.
+-- The bits of the stops of a block, and what they say of the bytes before the first one. For `stops_of`,
+-- `len_before_stop` and `pack_to_stop`.
 use Rattle.std.proofs.Common.{List, [], ◌∷◌, ◌++◌, map, ◌≡◌, ℕ, ◌<◌, ◌≤◌, true, false, cond, eqb, suc}
 use Rattle.std.proofs.Common.{zero}
 use Rattle.std.proofs.Common.{length, take, drop, w8, ap, ◌+◌, ◌*◌, ◌-◌, ◌%◌, ◌^◌, Bool, refl, sym, ◌∙◌, arith}
@@ -27,7 +28,8 @@ use Rattle.data_url.proofs.packing.Places.{clear_low}
 use Rattle.std.proofs.lemmas.List.{map-append, length-drop, length-map}
 use lib.Lanes.{mask_l, top, zip2}
 use Rattle.data_url.proofs.escapes.HexCodes.{length-starts}
-use Rattle.data_url.proofs.escapes.WholeEscapes.{IsSimple, dropped, dropped_escape, dropped_other, dropped_tab, first_stays, is_open, is_passed_soon, is_simple, packed, passed}
+use Rattle.data_url.proofs.escapes.WholeEscapes.{IsSimple, dropped, dropped_escape, dropped_other, dropped_tab}
+use Rattle.data_url.proofs.escapes.WholeEscapes.{first_stays, is_open, is_passed_soon, is_simple, packed, passed}
 
 -- Masks
 
@@ -52,7 +54,8 @@ mark_is b = elim (b == 37) as (λ p. (b == 37) ≡ p
       | false ↦ λ p. elim (b == 35) as (λ q. (b == 35) ≡ q
           → cond (is_marked b) 1 0 ≡ cond (b == 37) 1 0 + (cond (b == 35) 1 0 + cond (is_tab_or_newline b) 1 0)) [
             | true ↦ λ q. subst (λ x. cond (is_marked x) 1 0
-                ≡ cond (x == 37) 1 0 + (cond (x == 35) 1 0 + cond (is_tab_or_newline x) 1 0)) (sym (eqb-true b 35 q)) refl
+                ≡ cond (x == 37) 1 0 + (cond (x == 35) 1 0 + cond (is_tab_or_newline x) 1 0)) (sym (eqb-true b 35
+                q)) refl
             | false ↦ λ q. grind (arith, p, q, cases_Bool (is_tab_or_newline b))
           ] refl
     ] refl
@@ -98,7 +101,8 @@ late_is (a ∷ b ∷ c ∷ s) zero l = absurd (omega (arith, l))
 late_is (a ∷ b ∷ c ∷ s) (suc n) l =
     let more = late_is (b ∷ c ∷ s) n (omega (arith, l)) in omega (arith, more, pow-succ' 2 n)
 
--- the bits of the '%' that are before a tab or newline that is one of the next two bytes, or are among the last two bytes
+-- the bits of the '%' that are before a tab or newline that is one of the next two bytes, or are among the last two
+-- bytes
 abbrev near : ℕ → ℕ → ℕ → ℕ
 near p t l = bit_and p (bit_or (bit_or (t / 2) (t / 4)) l)
 
@@ -177,10 +181,12 @@ near_more b s =
     near_half (percents (b ∷ s)) (passed (b ∷ s)) (late (b ∷ s)) ∙ halves
 
 -- a byte is not both '#' and '%'
-stop_bit : (b : ℕ) (x : Bool) → cond ((b == 35) || ((b == 37) && x)) 1 0 ≡ cond (b == 35) 1 0 + cond ((b == 37) && x) 1 0
+stop_bit : (b : ℕ) (x : Bool) → cond ((b == 35) || ((b == 37) && x)) 1 0
+    ≡ cond (b == 35) 1 0 + cond ((b == 37) && x) 1 0
 stop_bit b x = elim (b == 35) as (λ p. (b == 35) ≡ p
     → cond ((b == 35) || ((b == 37) && x)) 1 0 ≡ cond (b == 35) 1 0 + cond ((b == 37) && x) 1 0) [
-      | true ↦ λ p. subst (λ y. cond ((y == 35) || ((y == 37) && x)) 1 0 ≡ cond (y == 35) 1 0 + cond ((y == 37) && x) 1 0)
+      | true ↦ λ p. subst (λ y. cond ((y == 35) || ((y == 37) && x)) 1 0
+          ≡ cond (y == 35) 1 0 + cond ((y == 37) && x) 1 0)
           (sym (eqb-true b 35 p)) refl
       | false ↦ λ p. grind (arith, p, cases_Bool ((b == 37) && x))
     ] refl
@@ -264,7 +270,8 @@ zeros_before m size least few is =
 
 -- lanes that are equal to one number
 pub equal_mask : (s : List ℕ) (n : ℕ) → length s ≡ 64
-    → mask_l (map (top 7) (zip2 (λ a b. cond (eqb a b) 255 0) s (replicate 64 n))) % 2 ^ 64 ≡ mask_l (map (λ b. b == n) s)
+    → mask_l (map (top 7) (zip2 (λ a b. cond (eqb a b) 255 0) s (replicate 64 n))) % 2 ^ 64
+    ≡ mask_l (map (λ b. b == n) s)
 equal_mask s n long =
     let bits = tops_compared w8 eqb s (replicate 64 n) ∙ zip2_splat eqb s 64 n long in
     let size : length (map (λ b. b == n) s) ≡ 64 = length-map s (λ b. b == n) ∙ long in
@@ -340,7 +347,8 @@ open_none [] h = refl
 open_none (a ∷ []) h =
     alone_clear (a == 35) (a == 37) (omega (arith, h))
 open_none (a ∷ b ∷ []) h =
-    ap₂ (λ x y. x || y) (alone_clear (a == 35) (a == 37) (omega (arith, h))) (alone_clear (b == 35) (b == 37) (omega (arith, h)))
+    ap₂ (λ x y. x || y) (alone_clear (a == 35) (a == 37) (omega (arith, h))) (alone_clear (b == 35) (b == 37)
+    (omega (arith, h)))
 open_none (a ∷ b ∷ c ∷ s) h = open_none (b ∷ c ∷ s) (omega (arith, h))
 
 -- no escape goes on into a text that does not begin with a digit
@@ -395,16 +403,18 @@ dropped_append x y h =
     ap mask_l (map-append is_tab_or_newline x y) ∙ mask_append (map is_tab_or_newline x) (map is_tab_or_newline y)
     ∙ ap (λ k. passed y * 2 ^ k + passed x) (length-map x is_tab_or_newline) in
     let both : dropped y * n ≡ 6 * (mask_l (escape_starts y) * n) + passed y * n =
-    add-mul (6 * mask_l (escape_starts y)) (passed y) n ∙ ap (λ k. k + passed y * n) (mul_assoc 6 (mask_l (escape_starts y)) n) in
+    add-mul (6 * mask_l (escape_starts y)) (passed y) n
+    ∙ ap (λ k. k + passed y * n) (mul_assoc 6 (mask_l (escape_starts y)) n) in
     omega (arith, s, p, both)
 
 -- the bits are as many as the bytes
 dropped_less : (b : ℕ) (s : List ℕ) → begins_with_escape (b ∷ s) ≡ false → dropped s < 2 ^ length s
     → dropped (b ∷ s) < 2 ^ suc (length s)
-dropped_less b s h few = elim (is_tab_or_newline b) as (λ t. is_tab_or_newline b ≡ t → dropped (b ∷ s) < 2 ^ suc (length s)) [
-  | true ↦ λ t. omega (arith, dropped_tab b s t, few, pow-succ' 2 (length s))
-  | false ↦ λ t. omega (arith, dropped_other b s t h, few, pow-succ' 2 (length s))
-] refl
+dropped_less b s h few = elim (is_tab_or_newline b) as (λ t. is_tab_or_newline b ≡ t
+    → dropped (b ∷ s) < 2 ^ suc (length s)) [
+      | true ↦ λ t. omega (arith, dropped_tab b s t, few, pow-succ' 2 (length s))
+      | false ↦ λ t. omega (arith, dropped_other b s t h, few, pow-succ' 2 (length s))
+    ] refl
 
 pub dropped_few : (s : List ℕ) → dropped s < 2 ^ length s
 dropped_few [] = lit< tt
@@ -446,7 +456,8 @@ front_written values all bits used long l is =
     ∙ ap (clear x) (ap (λ m. m % n) turned ∙ mod-mul-add (2 ^ (64 - used) - 1) n (bits % n) few)
     ∙ clear_low x used bits (omega (arith, size)) in
     let none : clear y (all / 2 ^ length x) ≡ [] =
-    ap (clear y) (ap (λ k. all / 2 ^ k) size ∙ ap (λ m. m / n) turned ∙ div-mul-add (2 ^ (64 - used) - 1) n (bits % n) few)
+    ap (clear y) (ap (λ k. all / 2 ^ k) size ∙ ap (λ m. m / n) turned
+    ∙ div-mul-add (2 ^ (64 - used) - 1) n (bits % n) few)
     ∙ clear_all y (64 - used) rest in
     ap (λ v. clear v all) (sym (take-append-drop used values)) ∙ clear_append x y all
     ∙ ap₂ (λ (a b : List ℕ). a ++ b) front none ∙ append-nil (clear x bits)
@@ -461,5 +472,6 @@ front_packed x y h =
     let front : take n (place_values (x ++ y)) ≡ place_values x =
     ap (take n) (places_append x y h) ∙ ap (λ k. take k (place_values x ++ place_values y)) (sym size)
     ∙ take-append_seam (place_values x) (place_values y) in
-    ap (λ v. clear v (dropped (x ++ y))) front ∙ sym (clear_low (place_values x) n (dropped (x ++ y)) (omega (arith, size)))
+    ap (λ v. clear v (dropped (x ++ y))) front ∙ sym (clear_low (place_values x) n (dropped (x ++ y)) (omega
+    (arith, size)))
     ∙ ap (clear (place_values x)) low

@@ -7,7 +7,8 @@ use Rattle.std.specs.Char.{digit_value, is_ascii_hexdigit}
 use Rattle.std.proofs.lemmas.Bool.{and_parts, cases_Bool, eqb-true, true≢false}
 use Rattle.data_url.specs.Percent.{begins_with_escape, percent_decoding}
 use Rattle.data_url.specs.Steps.Groups.{clear}
-use Rattle.data_url.proofs.escapes.EscapeDigits.{begins_other, cleaned_keeps, cleaned_nil, cleaned_passes, hex_other, no_escape}
+use Rattle.data_url.proofs.escapes.EscapeDigits.{begins_other, cleaned_keeps, cleaned_nil}
+use Rattle.data_url.proofs.escapes.EscapeDigits.{cleaned_passes, hex_other, no_escape}
 use Rattle.data_url.proofs.escapes.Reading.{decoded_byte, percent_nil}
 use Rattle.data_url.proofs.texts.Bytes.{after_other}
 use Rattle.data_url.specs.{Steps.Digits.{cleaned}, Url.{after, is_tab_or_newline}}
@@ -46,7 +47,8 @@ dropped s = 6 * mask_l (escape_starts s) + passed s
 pub dropped_other : (b : ℕ) (s : List ℕ) → is_tab_or_newline b ≡ false → begins_with_escape (b ∷ s) ≡ false
     → dropped (b ∷ s) ≡ 0 + 2 * dropped s
 dropped_other b s t h =
-    ap₂ (λ (x y : Bool). 6 * (cond x 1 0 + 2 * mask_l (escape_starts s)) + (cond y 1 0 + 2 * passed s)) h t ∙ omega arith
+    ap₂ (λ (x y : Bool). 6 * (cond x 1 0 + 2 * mask_l (escape_starts s)) + (cond y 1 0 + 2 * passed s)) h t
+    ∙ omega arith
 
 -- the bit of a tab or newline is set
 pub dropped_tab : (b : ℕ) (s : List ℕ) → is_tab_or_newline b ≡ true → dropped (b ∷ s) ≡ 1 + 2 * dropped s
@@ -62,7 +64,8 @@ dropped_escape h l s p q =
     let second = begins_other h (l ∷ s) (grind (arith, hex_other)) in
     let third = begins_other l s (grind (arith, hex_other)) in
     let m = mask_l (escape_starts s) in
-    let e : mask_l (escape_starts (37 ∷ h ∷ l ∷ s)) ≡ cond true 1 0 + 2 * (cond false 1 0 + 2 * (cond false 1 0 + 2 * m)) =
+    let e : mask_l (escape_starts (37 ∷ h ∷ l ∷ s))
+    ≡ cond true 1 0 + 2 * (cond false 1 0 + 2 * (cond false 1 0 + 2 * m)) =
     ap₂ (λ (t : Bool) n. cond t 1 0 + 2 * n) first
     (ap₂ (λ (t : Bool) n. cond t 1 0 + 2 * n) second (ap (λ (t : Bool). cond t 1 0 + 2 * m) third)) in
     let f : passed (37 ∷ h ∷ l ∷ s) ≡ 0 + 2 * (cond false 1 0 + 2 * (cond false 1 0 + 2 * passed s)) =
@@ -120,7 +123,8 @@ open_more a [] g h = refl
 open_more a (b ∷ []) g h = grind (arith, cases_Bool (a == 37), cases_Bool (b == 37), cases_Bool g)
 open_more a (b ∷ c ∷ s) g h = h
 
--- a '%' at which no escape begins also begins none without tabs and newlines, if the text after it does not begin with a
+-- a '%' at which no escape begins also begins none without tabs and newlines, if the text after it does not begin
+-- with a
 -- digit, or two bytes follow
 lone_percent : (s t : List ℕ) → is_passed_soon s ≡ false → is_simple s ≡ true → begins_with_escape (37 ∷ s) ≡ false
     → (is_open (37 ∷ s) && begins_with_digit t) ≡ false → begins_with_escape (37 ∷ (cleaned s ++ t)) ≡ false
@@ -155,7 +159,8 @@ packed s = clear (place_values s) (dropped s)
 pub record Whole (x t : List ℕ) : Type 0 where
   pub cleaned_is : cleaned (x ++ t) ≡ cleaned x ++ cleaned t
   pub after_is : after 35 (x ++ t) ≡ after 35 t
-  pub decoded_is : percent_decoding (cleaned x ++ cleaned t) ≡ percent_decoding (cleaned x) ++ percent_decoding (cleaned t)
+  pub decoded_is : percent_decoding (cleaned x ++ cleaned t)
+      ≡ percent_decoding (cleaned x) ++ percent_decoding (cleaned t)
   pub packed_is : packed x ≡ percent_decoding (cleaned x)
   pub few : length (percent_decoding (cleaned x)) ≤ length x
 
@@ -179,7 +184,8 @@ whole_tab b x t h w =
       decoded_is = ap (λ l. percent_decoding (l ++ cleaned t)) passes ∙ w.decoded_is
           ∙ ap (λ l. percent_decoding l ++ percent_decoding (cleaned t)) (sym passes);
       packed_is = ap (clear (place_values (b ∷ x))) (dropped_tab b x h)
-          ∙ clear_bit true (first_value (b ∷ x)) (place_values x) (dropped x) ∙ w.packed_is ∙ ap percent_decoding (sym passes);
+          ∙ clear_bit true (first_value (b ∷ x)) (place_values x) (dropped x) ∙ w.packed_is
+          ∙ ap percent_decoding (sym passes);
       few = omega (arith, ap (λ l. length (percent_decoding l)) passes, w.few);
     }
 
@@ -218,7 +224,8 @@ whole_escape h l x t p q w =
     let z = first_value (l ∷ x) in
     record {
       cleaned_is = keeps (x ++ t) ∙ ap (λ r. 37 ∷ h ∷ l ∷ r) w.cleaned_is ∙ ap (λ r. r ++ cleaned t) (sym (keeps x));
-      after_is = after_other 35 37 (h ∷ l ∷ (x ++ t)) refl ∙ after_other 35 h (l ∷ (x ++ t)) a.1 ∙ after_other 35 l (x ++ t) b.1
+      after_is = after_other 35 37 (h ∷ l ∷ (x ++ t)) refl ∙ after_other 35 h (l ∷ (x ++ t)) a.1
+          ∙ after_other 35 l (x ++ t) b.1
           ∙ w.after_is;
       decoded_is = ap (λ r. percent_decoding (r ++ cleaned t)) (keeps x)
           ∙ decoded_escape h l (cleaned x ++ cleaned t) p q ∙ ap (λ r. value ∷ r) w.decoded_is
@@ -232,17 +239,20 @@ whole_escape h l x t p q w =
     }
 
 -- a byte at which no escape begins, or a tab or newline
-whole_more : (a : ℕ) (x t : List ℕ) → is_simple (a ∷ x) ≡ true → (is_open (a ∷ x) && begins_with_digit (cleaned t)) ≡ false
+whole_more : (a : ℕ) (x t : List ℕ) → is_simple (a ∷ x) ≡ true
+    → (is_open (a ∷ x) && begins_with_digit (cleaned t)) ≡ false
     → begins_with_escape (a ∷ x) ≡ false → Whole x t → Whole (a ∷ x) t
 whole_more a x t h o e w = elim (is_tab_or_newline a) as (λ p. is_tab_or_newline a ≡ p → Whole (a ∷ x) t) [
   | true ↦ λ p. whole_tab a x t p w
   | false ↦ λ p.
       let alone = lone a x [] h e (grind (arith, cases_Bool (is_open (a ∷ x)))) in
-      whole_other a x t p (simple a x h).hash e (subst (λ l. begins_with_escape (a ∷ l) ≡ false) (append-nil (cleaned x)) alone)
+      whole_other a x t p (simple a x h).hash e (subst (λ l. begins_with_escape (a ∷ l)
+      ≡ false) (append-nil (cleaned x)) alone)
       (lone a x (cleaned t) h e o) w
 ] refl
 
--- a text with no '#', and no tab or newline directly after a '%', before a text that does not go on with its last escape
+-- a text with no '#', and no tab or newline directly after a '%', before a text that does not go on with its last
+-- escape
 pub whole : (x t : List ℕ) → is_simple x ≡ true → (is_open x && begins_with_digit (cleaned t)) ≡ false → Whole x t
 whole [] t h o = whole_nil t
 whole (a ∷ []) t h o = whole_more a [] t h o refl (whole_nil t)

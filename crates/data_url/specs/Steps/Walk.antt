@@ -1,5 +1,6 @@
 -- A walk over the text of a body: what its steps find, and what stays true.
-use Rattle.std.specs.Prelude.{◌*◌, ◌++◌, ◌+◌, ◌-◌, ◌<◌, ◌∷◌, ◌≡◌, ◌≤◌, Bool, IfNone, IfSome, List, MatchBool, Option, [], drop, false, length, map, slice_index, slice_range, take, true, ℕ}
+use Rattle.std.specs.Prelude.{◌*◌, ◌++◌, ◌+◌, ◌-◌, ◌<◌, ◌∷◌, ◌≡◌, ◌≤◌, Bool, IfNone, IfSome, List}
+use Rattle.std.specs.Prelude.{MatchBool, Option, [], drop, false, length, map, slice_index, slice_range, take, true, ℕ}
 use Rattle.std.specs.Simd.Lanes.{mask_l}
 use Rattle.data_url.specs.Fetch.{plain_body}
 use Rattle.data_url.specs.Pieces.{IsPiece, bytes_of, bytes_of_next, has_ended, is_slice_end, text_of}

@@ -2,10 +2,10 @@
 
 #![tactic(auto, using(crate::proofs::escapes::Walking::walks))]
 
-ghost use Rattle.std.specs.Prelude.{ℕ, [], ◌≡◌, ◌+◌, ◌<◌, drop, true};
+ghost use Rattle.std.specs.Prelude.{ℕ, [], ◌≡◌, ◌+◌, ◌<◌, drop, false, length, true};
 ghost use Rattle.data_url.specs.Pieces.{is_slice_end, text_of, walk_at_start, walk_of};
 ghost use Rattle.data_url.specs.Steps.Chunks.{IsBodyPrefix};
-ghost use Rattle.data_url.specs.Steps.Walk.{GoesOn, IsPart, Knows, KnowsAhead, Looking, Searching, Spells};
+ghost use Rattle.data_url.specs.Steps.Walk.{Gathering, GoesOn, IsPart, Knows, KnowsAhead, Looking, Searching, Spells};
 
 use super::Piece;
 use super::source::Source;
@@ -148,5 +148,22 @@ impl<'a> Cursor<'a> {
         self.place = next;
         self.ahead = ahead;
         Piece::Slice(slice)
+    }
+
+    /// Returns whether the body ends at the place.
+    #[inline(always)]
+    pub(super) fn is_over(&mut self) -> bool
+        requires gathering { Gathering self.old }
+        ensures gathering { Gathering self.new }
+        ensures source { self.new.source ≡ self.old.source }
+        ensures place { self.new.place ≡ self.old.place }
+        ensures more { result ≡ false → (self.new ≡ self.old) × (self.old.ahead ≡ Ahead.Unknown)
+            × (self.old.place < length (text_of self.old)) }
+    {
+        if !matches!(self.ahead, Ahead::End) && self.place < self.source.len() {
+            return false;
+        }
+        self.ahead = Ahead::End;
+        true
     }
 }

@@ -85,23 +85,6 @@ impl<'a> Cursor<'a> {
         }
     }
 
-    /// Returns whether the body ends at the place.
-    #[inline(always)]
-    fn is_over(&mut self) -> bool
-        requires gathering { Gathering self.old }
-        ensures gathering { Gathering self.new }
-        ensures source { self.new.source ≡ self.old.source }
-        ensures place { self.new.place ≡ self.old.place }
-        ensures more { result ≡ false → (self.new ≡ self.old) × (self.old.ahead ≡ Ahead.Unknown)
-            × (self.old.place < length (text_of self.old)) }
-    {
-        if !matches!(self.ahead, Ahead::End) && self.place < self.source.len() {
-            return false;
-        }
-        self.ahead = Ahead::End;
-        true
-    }
-
     /// Gathers the next block, or what is left of the last one, after the bytes that were gathered before. Returns how many
     /// bytes are gathered then, or None if the body ends or a long stretch begins.
     #[inline(always)]
