@@ -163,6 +163,18 @@ pub record IsWhole (c : Cursor) (bytes : List ℕ) : Type 0 where
   pub seen_is : c.block.seen ≡ c.place + 64
   pub bytes_are : bytes ≡ take 64 (drop c.place (text_of c))
 
+-- a walk gathers bytes, and can gather more
+pub record Gathered (c c' : Cursor) (room room' : List ℕ) (len len' : ℕ) : Type 0 where
+  pub gathers : Gathers c c' room room' len len'
+  pub few : len' ≤ 512
+  pub gathering : Gathering c'
+
+-- a walk packs bytes of a block, and goes on after them
+pub record Packs (c c' : Cursor) (room room' : List ℕ) (len len' : ℕ) : Type 0 where
+  pub gathers : Gathers c c' room room' len len'
+  pub few : len' ≤ 512
+  pub moves : c.place < c'.place
+
 -- the walk went on, or its body ends
 abbrev pub Moves : Cursor → Cursor → Type 0
 Moves c c' = MatchBool (has_ended c'.ahead) (Unit {0}) (c.place < c'.place)

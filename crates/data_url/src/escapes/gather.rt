@@ -6,7 +6,7 @@ ghost use Rattle.std.specs.Prelude.{◌≡◌, ◌+◌, ◌<◌, ◌≤◌, IfSo
 ghost use Rattle.std.specs.Option.{option_map_or};
 ghost use Rattle.data_url.specs.Pieces.{text_of, walk_of};
 ghost use Rattle.data_url.specs.Steps.Chunks.{GivesBytes};
-ghost use Rattle.data_url.specs.Steps.Walk.{Gathering, Gathers, HasRoom, IsGathered, IsWide};
+ghost use Rattle.data_url.specs.Steps.Walk.{Gathered, Gathering, Gathers, HasRoom, IsGathered, IsWide};
 ghost use Rattle.data_url.specs.Steps.Walk.{Knows, KnowsAhead, Looking, MayGather, Moves};
 ghost use Rattle.data_url.specs.Steps.Window.{is_marked};
 
@@ -48,8 +48,7 @@ impl<'a> Cursor<'a> {
     #[inline(always)]
     fn gather(&mut self, room: &mut [u8; BUFFER_LEN]) -> usize
         requires { Knows self.old }
-        ensures gathers { Gathers self.old self.new room.old room.new 0 result }
-        ensures few { result ≤ 512 }
+        ensures gathered { Gathered self.old self.new room.old room.new 0 result }
         ensures knows { Knows self.new }
     {
         let mut len = self.gather_known(room);
@@ -66,9 +65,7 @@ impl<'a> Cursor<'a> {
     #[inline(always)]
     fn gather_known(&mut self, room: &mut [u8; BUFFER_LEN]) -> usize
         requires { KnowsAhead self.old self.old.ahead }
-        ensures gathers { Gathers self.old self.new room.old room.new 0 result }
-        ensures few { result ≤ 1 }
-        ensures gathering { Gathering self.new }
+        ensures { Gathered self.old self.new room.old room.new 0 result }
     {
         match self.ahead {
             Ahead::Escape(value, end) => {
@@ -91,11 +88,10 @@ impl<'a> Cursor<'a> {
     fn gather_more(&mut self, room: &mut [u8; BUFFER_LEN], len: usize) -> Option<usize>
         requires gathering { Gathering self.old }
         requires room { len ≤ 384 }
-        ensures gathering { Gathering self.new }
-        ensures gathers { Gathers self.old self.new room.old room.new len
+        ensures gathered { Gathered self.old self.new room.old room.new len
             (option_map_or (λ n. n) result len) }
-        ensures few { IfSome result (λ n. n ≤ 512) }
-        ensures moves { IfSome result (λ _. Moves self.old self.new × (self.old.ahead ≡ Ahead.Unknown)) }
+        ensures moves { IfSome result (λ _. Moves self.old self.new
+            × (self.old.ahead ≡ Ahead.Unknown)) }
     {
         if self.is_over() {
             return None;
@@ -131,10 +127,8 @@ impl<'a> Cursor<'a> {
         requires may { MayGather self.old len }
         requires here { self.old.place < self.old.block.seen }
         requires wide { IsWide self.old true }
-        ensures gathering { Gathering self.new }
-        ensures gathers { Gathers self.old self.new room.old room.new len
+        ensures gathered { Gathered self.old self.new room.old room.new len
             (option_map_or (λ n. n) result len) }
-        ensures few { IfSome result (λ n. n ≤ 512) }
         ensures moves { IfSome result (λ _. Moves self.old self.new) }
     {
         if len == 0 && self.block.marks == 0 {
@@ -150,9 +144,7 @@ impl<'a> Cursor<'a> {
         requires may { MayGather self.old len }
         requires here { self.old.place < self.old.block.seen }
         requires wide { IsWide self.old is_followed }
-        ensures gathers { Gathers self.old self.new room.old room.new len result }
-        ensures few { result ≤ 512 }
-        ensures gathering { Gathering self.new }
+        ensures gathered { Gathered self.old self.new room.old room.new len result }
         ensures moves { Moves self.old self.new }
     {
         let mut len = len;

@@ -2,11 +2,12 @@
 
 #![tactic(auto, using(crate::proofs::escapes::Walking::walks))]
 
-ghost use Rattle.std.specs.Prelude.{◌≡◌, ◌+◌, ◌-◌, ◌++◌, ◌<◌, ◌≤◌, IfNone, IfSome, length, map, replicate};
+ghost use Rattle.std.specs.Prelude.{◌≡◌, ◌+◌, ◌-◌, ◌++◌, ◌<◌, ◌≤◌};
+ghost use Rattle.std.specs.Prelude.{IfNone, IfSome, length, map, replicate};
 ghost use Rattle.std.specs.Simd.Lanes.{mask_l};
 ghost use Rattle.data_url.specs.Pieces.{text_of};
 ghost use Rattle.data_url.specs.Steps.Escapes.{IsPacked};
-ghost use Rattle.data_url.specs.Steps.Walk.{Gathers, IsWhole, Looking, LooksOn, MayGather};
+ghost use Rattle.data_url.specs.Steps.Walk.{IsWhole, Looking, LooksOn, MayGather, Packs};
 ghost use Rattle.data_url.specs.Steps.Window.{is_marked};
 
 use super::cursor::{Ahead, Cursor};
@@ -64,8 +65,7 @@ impl<'a> Cursor<'a> {
         requires room { len ≤ 384 }
         ensures looking { Looking self.new.source self.new.block self.new.place 0 }
         ensures ahead { self.new.ahead ≡ self.old.ahead }
-        ensures packed { IfSome result (λ n. Gathers self.old self.new room.old room.new len n × (n ≤ 512)
-            × (self.old.place < self.new.place)) }
+        ensures packed { IfSome result (Packs self.old self.new room.old room.new len) }
         ensures none { IfNone result ((self.new ≡ self.old) × (room.new ≡ room.old)) }
     {
         let _len = self.source.len();
@@ -86,8 +86,7 @@ impl<'a> Cursor<'a> {
         ensures looking { Looking self.new.source self.new.block self.new.place 0 }
         ensures unknown { self.new.ahead ≡ Ahead.Unknown }
         ensures on { LooksOn self.old.source self.new.source }
-        ensures packed { IfSome result (λ n. Gathers self.old self.new room.old room.new len n × (n ≤ 512)
-            × (self.old.place < self.new.place)) }
+        ensures packed { IfSome result (Packs self.old self.new room.old room.new len) }
         ensures none { IfNone result ((room.new ≡ room.old) × (self.new.place ≡ self.old.place)
             × (self.new.place < self.new.block.seen)) }
     {

@@ -16,8 +16,9 @@ returns-clause-packed c =
     let rest = c.look_rest-rest.result.now in
     let p : IsPacked (rest ++ replicate (64 - length rest) 0) (length rest) c.args.room.now c.pack_last-marks.new.room
     c.args.len c.in_ok-used.used c.in_ok-used.end = rw c.in_ok-used.was at c.pack_last-marks.ensures.packed in
-    let f = last_front c.requires.some (omega arith) l.bytes p in (
-      gathers_front f p (grind arith) q.place c.told-room c.pack_last-marks.array_long c.requires.room,
-      omega (arith, p.short, c.requires.room),
-      omega (arith, q.place, p.some),
-    )
+    let f = last_front c.requires.some (omega arith) l.bytes p in
+    record {
+      gathers = gathers_front f p (grind arith) q.place c.told-room c.pack_last-marks.array_long c.requires.room;
+      few = omega (arith, p.short, c.requires.room);
+      moves = omega (arith, q.place, p.some);
+    }

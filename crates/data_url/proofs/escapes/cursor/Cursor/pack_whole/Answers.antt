@@ -14,8 +14,9 @@ returns-clause-packed c =
     let p = c.in_ok-used.ensures.packed in
     let q = c.pass_front.ensures in
     let w = c.requires.whole in
-    let f = whole_front (omega (arith, w.seen_is, c.requires.may.looking.block.seen_le)) w.bytes_are p in (
-      gathers_front f p (grind arith) q.place c.told-room c.pack_to_stop.array_long c.requires.room,
-      omega (arith, p.short, c.requires.room),
-      omega (arith, q.place, p.some),
-    )
+    let f = whole_front (omega (arith, w.seen_is, c.requires.may.looking.block.seen_le)) w.bytes_are p in
+    record {
+      gathers = gathers_front f p (grind arith) q.place c.told-room c.pack_to_stop.array_long c.requires.room;
+      few = omega (arith, p.short, c.requires.room);
+      moves = omega (arith, q.place, p.some);
+    }
