@@ -10,14 +10,16 @@ ghost use Rattle.data_url.specs.Steps.Tail.{IsBodyEnd};
 
 mod cursor;
 mod digits;
+mod gather;
 mod lanes;
 mod looks;
+mod pack;
 mod raw;
 mod source;
 mod stops;
 
-pub(crate) use cursor::BUFFER_LEN;
 use cursor::{Ahead, Cursor};
+pub(crate) use gather::BUFFER_LEN;
 pub(crate) use source::fragment_at;
 use std::marker::Model;
 use std::mem::replace;

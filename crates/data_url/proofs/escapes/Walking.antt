@@ -11,7 +11,8 @@ use Rattle.std.specs.{List.{list_all}, Simd.Lanes.{mask_l}}
 use Rattle.std.proofs.lemmas.Bool.{and_parts, cases_Bool}
 use Rattle.data_url.specs.Steps.Window.{is_marked, is_plain}
 use Rattle.data_url.specs.Url.{is_tab_or_newline}
-use Rattle.data_url.proofs.escapes.Reading.{begins_other, cleaned_keeps, spells_byte, spells_passed}
+use Rattle.data_url.proofs.escapes.EscapeDigits.{begins_other, cleaned_keeps}
+use Rattle.data_url.proofs.escapes.Reading.{spells_byte, spells_passed}
 use Rattle.std.specs.Char.{is_ascii_whitespace}
 use Rattle.data_url.specs.Base64.{without_whitespace}
 use Rattle.std.proofs.lemmas.List.Elements.{filter-append}
@@ -24,7 +25,8 @@ use Rattle.data_url.specs.{Url.{before, after, front, without_tabs_and_newlines}
 use Rattle.data_url.specs.{declared.escapes.Piece.TheVariants.{Byte, Slice}, declared.escapes.cursor.Cursor.{Cursor}}
 use Rattle.data_url.specs.declared.escapes.cursor.Ahead.TheVariants.{AfterEscape, End, Escape, Unknown}
 use Rattle.data_url.specs.{declared.escapes.source.Source.{Source}, declared.escapes.stops.Block.{Block}}
-use Rattle.data_url.proofs.escapes.Reading.{copied_wide, looking_on, padded_is, ends_empty, paid_le, paid_on}
+use Rattle.data_url.proofs.escapes.BlockMarks.{copied_wide, looking_on, padded_is}
+use Rattle.data_url.proofs.escapes.Reading.{ends_empty, paid_le, paid_on}
 use Rattle.data_url.proofs.escapes.Reading.{percent_nil, spells_clear, spells_escape, spells_none, spells_then}
 use Rattle.data_url.proofs.{percent.Encoding.{decoded_escape}, runs.Runs.{none_or_some}}
 use Rattle.data_url.proofs.texts.Bytes.{after_same, after-dropped_none, before-append, is_cut}

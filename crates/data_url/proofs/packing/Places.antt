@@ -33,7 +33,8 @@ small_each (x ∷ xs) h =
 
 -- the entry of eight bits begins with the places of the bits that are 0
 abbrev is_right : ℕ → Bool
-is_right eight = alike (take (8 - count_ones eight) (take 16 (drop (8 * eight) PLACES))) (clear (range_with_len 0 8) eight)
+is_right eight = alike (take (8 - count_ones eight) (take 16 (drop (8 * eight) PLACES))) (clear (range_with_len 0
+    8) eight)
     && (ltb (count_ones eight) 9 && are_small (take 16 (drop (8 * eight) PLACES)))
 
 -- all entries do
@@ -87,7 +88,8 @@ clear_low (x ∷ xs) (suc k) m l =
     ap (λ n. m % n) (pow-suc 2 k) ∙ mod-mul m {m = 2 ^ k} {c = 2} (pow_pos k) (lit< tt) in
     grind (arith, e, clear_low xs k (m / 2) (omega (arith, l)))
 
--- looking up the bytes at the places of the bits that are 0, of n places from a place on, gives the bytes with these bits
+-- looking up the bytes at the places of the bits that are 0, of n places from a place on, gives the bytes with these
+-- bits
 looked : (v places : List ℕ) (from n count bits : ℕ) → length places ≡ 16 → Each1 (λ p. p < 16) places
     → take count places ≡ clear (range_with_len from n) bits → from + n ≤ length v
     → take count (swz_l w8 16 v 0 places) ≡ clear (take n (drop from v)) bits
@@ -125,17 +127,23 @@ halves v dropped long =
 -- a row is packed half by half
 pub packed : (v low high old middle new : List ℕ) (at few more dropped : ℕ) → length v ≡ 16 → length low ≡ 16
     → Each1 (λ p. p < 8) low → length high ≡ 16 → Each1 (λ p. p < 8) high → few ≤ 8 → more ≤ 8
-    → take few low ≡ clear (range_with_len 0 8) (dropped % 256) → take more high ≡ clear (range_with_len 0 8) (dropped / 256)
+    → take few low ≡ clear (range_with_len 0 8) (dropped % 256)
+    → take more high ≡ clear (range_with_len 0 8) (dropped / 256)
     → at ≤ length old → take (at + 16) middle ≡ take at old ++ swz_l w8 16 v 0 low → at + few ≤ length middle
     → take (at + few + 16) new ≡ take (at + few) middle ++ swz_l w8 16 v 0 (map (λ p. (p + 8) % 256) high)
     → take (at + few + more) new ≡ take at old ++ clear v dropped
-packed v low high old middle new at few more dropped long long_low small_low long_high small_high l m first second a p b q =
+packed v low high old middle new at few more dropped long long_low small_low long_high small_high l m first second
+    a p b q =
     let raise : ℕ → ℕ = λ p. (p + 8) % 256 in
     let raised = map raise high in
-    let low_is = looked v low 0 8 few (dropped % 256) long_low (small_below low small_low) first (omega (arith, long)) in
+    let low_is = looked v low 0 8 few (dropped % 256) long_low (small_below low small_low) first (omega (
+      arith,
+      long,
+    )) in
     let places : take more raised ≡ clear (range_with_len 8 8) (dropped / 256) =
     take-map raise more high ∙ ap (map raise) second ∙ sym (clear_map raise (range_with_len 0 8) (dropped / 256)) in
-    let high_is = looked v raised 8 8 more (dropped / 256) (length-map high raise ∙ long_high) (raised_below high small_high)
+    let high_is = looked v raised 8 8 more (dropped / 256) (length-map high raise
+    ∙ long_high) (raised_below high small_high)
     places (omega (arith, long)) in
     cc (
       put_some middle new (swz_l w8 16 v 0 raised) (at + few) more q b (omega (arith, m)),
@@ -143,7 +151,8 @@ packed v low high old middle new at few more dropped long long_low small_low lon
       low_is,
       high_is,
       halves v dropped long,
-      append_assoc (take at old) (clear (take 8 (drop 0 v)) (dropped % 256)) (clear (take 8 (drop 8 v)) (dropped / 256)),
+      append_assoc (take at old) (clear (take 8 (drop 0 v)) (dropped % 256)) (clear (take 8 (drop 8 v)) (dropped /
+          256)),
     )
 
 -- one row of a block more
@@ -153,7 +162,11 @@ pub row_packed : (block old bytes new : List ℕ) (dropped bits at q : ℕ) → 
     → new ≡ take at bytes ++ clear (take (16 * (q + 1)) block) dropped
 row_packed block old bytes new dropped bits at q room is before now =
     let row = take 16 (drop (16 * q) block) in
-    let long : length row ≡ 16 = length-take-le 16 (drop (16 * q) block) (omega (arith, length-drop (16 * q) block, room)) in
+    let long : length row ≡ 16 = length-take-le 16 (drop (16 * q) block) (omega (
+      arith,
+      length-drop (16 * q) block,
+      room,
+    )) in
     let front : length (take (16 * q) block) ≡ 16 * q = length-take-le (16 * q) block (omega (arith, room)) in
     let next : 16 * (q + 1) ≡ 16 * q + 16 = omega arith in
     let cut = take-add (16 * q) 16 block in
@@ -191,17 +204,27 @@ pub rows_packed : (v b0 b1 b2 b3 b4 : List ℕ) (dropped at e1 e2 e3 e4 : ℕ) �
     → take e4 b4 ≡ take e3 b3 ++ clear (extracted 48 v) (dropped / 2 ^ 48 % 65536)
     → take e4 b4 ≡ take at b0 ++ clear v dropped
 rows_packed v b0 b1 b2 b3 b4 dropped at e1 e2 e3 e4 long p q r s =
-    let row = λ (old : List ℕ) (from bits : ℕ) (room : from + 16 ≤ 64) (below : T (all_below 64 (range_with_len from 16))).
+    let row = λ (old : List ℕ) (from bits : ℕ) (room : from + 16 ≤ 64) (below : T (all_below 64 (range_with_len
+    from 16))).
     ap (λ t. old ++ clear t bits) (extracted_is v from long room below) in
     let none : take at b0 ≡ take at b0 ++ clear (take (16 * 0) v) dropped = sym (append-nil (take at b0)) in
     let whole : dropped % 65536 ≡ dropped / 2 ^ (16 * 0) % 65536 = omega arith in
     let one = row_packed v (take at b0) b0 (take e1 b1) dropped (dropped % 65536) at 0 (omega (arith, long)) whole none
     (p ∙ row (take at b0) 0 (dropped % 65536) (lit≤ tt) tt) in
-    let two = row_packed v (take e1 b1) b0 (take e2 b2) dropped (dropped / 2 ^ 16 % 65536) at 1 (omega (arith, long)) refl one
+    let two = row_packed v (take e1 b1) b0 (take e2 b2) dropped (dropped / 2 ^ 16 % 65536) at 1 (omega (
+      arith,
+      long,
+    )) refl one
     (q ∙ row (take e1 b1) 16 (dropped / 2 ^ 16 % 65536) (lit≤ tt) tt) in
-    let three = row_packed v (take e2 b2) b0 (take e3 b3) dropped (dropped / 2 ^ 32 % 65536) at 2 (omega (arith, long)) refl two
+    let three = row_packed v (take e2 b2) b0 (take e3 b3) dropped (dropped / 2 ^ 32 % 65536) at 2 (omega (
+      arith,
+      long,
+    )) refl two
     (r ∙ row (take e2 b2) 32 (dropped / 2 ^ 32 % 65536) (lit≤ tt) tt) in
-    let four = row_packed v (take e3 b3) b0 (take e4 b4) dropped (dropped / 2 ^ 48 % 65536) at 3 (omega (arith, long)) refl three
+    let four = row_packed v (take e3 b3) b0 (take e4 b4) dropped (dropped / 2 ^ 48 % 65536) at 3 (omega (
+      arith,
+      long,
+    )) refl three
     (s ∙ row (take e3 b3) 48 (dropped / 2 ^ 48 % 65536) (lit≤ tt) tt) in
     four ∙ ap (λ t. take at b0 ++ clear t dropped) (take_all 64 v (omega (arith, long)))
 

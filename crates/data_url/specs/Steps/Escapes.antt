@@ -1,6 +1,7 @@
 -- The escapes of a block of text, and what its lanes compute.
 use Rattle.std.specs.Char.{digit_value, is_ascii_hexdigit}
-use Rattle.std.specs.Prelude.{[], if◌then◌else◌, ◌&&◌, ◌*◌, ◌+◌, ◌<◌, ◌==◌, ◌||◌, ◌∷◌, ◌≡◌, ◌≤◌, Bool, List, false, map, take, true, ℕ}
+use Rattle.std.specs.Prelude.{[], if◌then◌else◌, ◌&&◌, ◌%◌, ◌*◌, ◌++◌, ◌+◌, ◌/◌, ◌<◌, ◌==◌, ◌^◌}
+use Rattle.std.specs.Prelude.{◌||◌, ◌∷◌, ◌≡◌, ◌≤◌, Bool, List, false, map, take, true, ℕ}
 use Rattle.std.specs.Simd.Lanes.{mask_l}
 use Rattle.data_url.specs.Percent.{begins_with_escape}
 use Rattle.data_url.specs.Steps.Groups.{clear}
@@ -52,3 +53,14 @@ abbrev pub front_values : List ℕ → ℕ → List ℕ
 front_values bytes used =
     clear (take used (place_values bytes))
     (6 * mask_l (escape_starts bytes) + mask_l (map is_tab_or_newline bytes))
+
+-- of the first `size` bytes of a block, those before the first stop are packed into a buffer after `len` bytes; it
+-- has `end`
+-- bytes then
+pub record IsPacked (bytes : List ℕ) (size : ℕ) (room room' : List ℕ) (len used end : ℕ) : Type 0 where
+  pub some : 12 ≤ used
+  pub few : used ≤ size
+  pub none : mask_l (stops bytes) % 2 ^ used ≡ 0
+  pub stop : used < size → mask_l (stops bytes) / 2 ^ used % 2 ≡ 1
+  pub short : end ≤ len + 64
+  pub room_is : take end room' ≡ take len room ++ front_values bytes used

@@ -1,5 +1,6 @@
 -- A walk over the text of a body: what its steps find, and what stays true.
-use Rattle.std.specs.Prelude.{◌*◌, ◌++◌, ◌+◌, ◌-◌, ◌<◌, ◌∷◌, ◌≡◌, ◌≤◌, Bool, IfNone, IfSome, List, MatchBool, None, Option, [], drop, false, length, map, slice_index, slice_range, take, true, ℕ}
+use Rattle.std.specs.Prelude.{◌*◌, ◌++◌, ◌+◌, ◌-◌, ◌<◌, ◌∷◌, ◌≡◌, ◌≤◌, Bool, IfNone, IfSome, List}
+use Rattle.std.specs.Prelude.{MatchBool, Option, [], drop, false, length, map, slice_index, slice_range, take, true, ℕ}
 use Rattle.std.specs.Simd.Lanes.{mask_l}
 use Rattle.data_url.specs.Fetch.{plain_body}
 use Rattle.data_url.specs.Pieces.{IsPiece, bytes_of, bytes_of_next, has_ended, is_slice_end, text_of}
@@ -152,9 +153,9 @@ pub record MayGather (c : Cursor) (len : ℕ) : Type 0 where
   pub unknown : c.ahead ≡ Unknown
   pub room : HasRoom c len
 
--- if the block is not dense, 64 more bytes of the text follow it, so that whole blocks can be copied
+-- if the block is followed by another one, 64 more bytes of the text come after it, so that whole blocks can be copied
 abbrev pub IsWide : Cursor → Bool → Type 0
-IsWide c dense = dense ≡ false → c.block.seen + 64 ≤ length (text_of c)
+IsWide c is_followed = is_followed ≡ true → c.block.seen + 64 ≤ length (text_of c)
 
 -- the block that was read last begins at the walk's index, and these are its 64 bytes
 pub record IsWhole (c : Cursor) (bytes : List ℕ) : Type 0 where
@@ -162,12 +163,17 @@ pub record IsWhole (c : Cursor) (bytes : List ℕ) : Type 0 where
   pub seen_is : c.block.seen ≡ c.place + 64
   pub bytes_are : bytes ≡ take 64 (drop c.place (text_of c))
 
--- the rest of a text, which has no fragment, is appended to a buffer as it is read
-pub record IsLast (rest room room' : List ℕ) (len end : ℕ) : Type 0 where
-  pub few : length (plain_body rest) ≤ length rest
-  pub room_is : take end room' ≡ take len room ++ plain_body rest
-  pub len_is : end ≡ len + length (plain_body rest)
-  pub after_is : after number_sign rest ≡ None
+-- a walk gathers bytes, and can gather more
+pub record Gathered (c c' : Cursor) (room room' : List ℕ) (len len' : ℕ) : Type 0 where
+  pub gathers : Gathers c c' room room' len len'
+  pub few : len' ≤ 512
+  pub gathering : Gathering c'
+
+-- a walk packs bytes of a block, and goes on after them
+pub record Packs (c c' : Cursor) (room room' : List ℕ) (len len' : ℕ) : Type 0 where
+  pub gathers : Gathers c c' room room' len len'
+  pub few : len' ≤ 512
+  pub moves : c.place < c'.place
 
 -- the walk went on, or its body ends
 abbrev pub Moves : Cursor → Cursor → Type 0

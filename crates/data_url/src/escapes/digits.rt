@@ -1,6 +1,6 @@
 //! Hexadecimal digits after a `%`, past tabs and newlines.
 
-#![tactic(auto, using(crate::proofs::escapes::Reading::digits))]
+#![tactic(auto, using(crate::proofs::escapes::EscapeDigits::digits))]
 
 ghost use Rattle.std.specs.Prelude.{IsTrue, ◌≡◌, ◌+◌, ◌<◌, ◌≤◌, MatchOption, drop, false, length, slice_index};
 ghost use Rattle.data_url.specs.{Percent.{begins_with_escape}, Url.{percent_sign}};
@@ -45,7 +45,8 @@ impl<'a> Source<'a> {
         requires percent { slice_index self.old.text.now place ≡ percent_sign }
         ensures text { self.new.text.now ≡ self.old.text.now }
         ensures looks { self.old.looks ≤ self.new.looks }
-        ensures found { MatchOption result (NoEscape self.old.text.now place self.old.looks self.new.looks)
+        ensures found { MatchOption result
+            (NoEscape self.old.text.now place self.old.looks self.new.looks)
             (λ found. EscapeAt self.old.text.now place found.0 found.1
             × (self.new.looks + place + 1 ≡ self.old.looks + found.1)) }
     {
@@ -61,7 +62,8 @@ impl<'a> Source<'a> {
         ensures text { self.new.text.now ≡ self.old.text.now }
         ensures looks { self.old.looks ≤ self.new.looks }
         ensures few { self.new.looks ≤ self.old.looks + 3 }
-        ensures found { MatchOption result (begins_with_escape (drop place self.old.text.now) ≡ false)
+        ensures found { MatchOption result
+            (begins_with_escape (drop place self.old.text.now) ≡ false)
             (λ value. EscapeAt self.old.text.now place value (place + 3)) }
     {
         if self.look(place) != b'%' {

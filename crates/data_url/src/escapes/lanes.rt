@@ -1,6 +1,6 @@
 //! Finds the bytes of a text that its body does not hold as they are, 64 bytes at a time.
 
-#![tactic(auto, using(crate::proofs::escapes::Reading::marks))]
+#![tactic(auto, using(crate::proofs::escapes::BlockMarks::marks))]
 
 ghost use Rattle.std.specs.Prelude.{◌≡◌, ◌%◌, ◌/◌, ◌==◌, ◌^◌, ◌<◌, ◌≤◌, IsTrue, false, map};
 ghost use Rattle.std.specs.Simd.Lanes.{mask_l};

@@ -10,7 +10,7 @@ ghost use Rattle.data_url.specs.Steps.Walk.{IsBlock, Looking};
 ghost use Rattle.data_url.specs.Steps.Window.{is_marked};
 ghost use Rattle.data_url.specs.Url.{after, number_sign};
 
-use super::cursor::BUFFER_LEN;
+use super::gather::BUFFER_LEN;
 use super::lanes::{BLOCK, marks_of};
 use super::looks::Looks;
 use super::stops::Block;

@@ -1,6 +1,6 @@
 //! The marked bytes of a text: where they are, and what begins there.
 
-#![tactic(auto, using(crate::proofs::escapes::Reading::stops))]
+#![tactic(auto, using(crate::proofs::escapes::BlockMarks::stops))]
 
 ghost use Rattle.std.specs.Prelude.{IsTrue, ◌≡◌, ◌+◌, ◌^◌, ◌<◌, ◌≤◌, MatchOption, length, slice_index, true};
 ghost use Rattle.data_url.specs.Steps.Walk.{IsClear, IsNextMark, IsStop, Looking, LooksOn};

@@ -1,5 +1,5 @@
 use Rattle.std.proofs.Common.{arith}
-use Rattle.data_url.proofs.escapes.Reading.{is_code}
+use Rattle.data_url.proofs.escapes.EscapeDigits.{is_code}
 use Rattle.data_url.proofs.escapes.digits.digit_code.Goals as goal
 
 pub returns : goal.returns

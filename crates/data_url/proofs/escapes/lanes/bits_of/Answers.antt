@@ -1,4 +1,4 @@
-use Rattle.data_url.proofs.escapes.Blocks.{equal_mask}
+use Rattle.data_url.proofs.escapes.StopBits.{equal_mask}
 use Rattle.data_url.proofs.escapes.lanes.bits_of.Goals as goal
 
 pub returns : goal.returns

@@ -1,5 +1,5 @@
 use Rattle.std.proofs.Common.{refl}
-use Rattle.data_url.proofs.escapes.Blocks.{codes_are}
+use Rattle.data_url.proofs.escapes.HexCodes.{codes_are}
 use Rattle.data_url.proofs.escapes.lanes.hex_codes.Goals as goal
 
 pub returns : goal.returns

@@ -1,4 +1,4 @@
-use Rattle.data_url.proofs.escapes.Blocks.{zeros_before}
+use Rattle.data_url.proofs.escapes.StopBits.{zeros_before}
 use Rattle.data_url.proofs.escapes.lanes.len_before_stop.Goals as goal
 
 pub returns-clause-none : goal.returns-clause-none

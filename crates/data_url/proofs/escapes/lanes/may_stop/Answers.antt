@@ -1,4 +1,4 @@
-use Rattle.data_url.proofs.escapes.Reading.{may_not_stop, no_bits}
+use Rattle.data_url.proofs.escapes.BlockMarks.{may_not_stop, no_bits}
 use Rattle.data_url.proofs.escapes.lanes.may_stop.Goals as goal
 
 pub returns : goal.returns

@@ -1,5 +1,5 @@
 use Rattle.std.proofs.Common.{arith}
-use Rattle.data_url.proofs.escapes.Blocks.{marks_are, no_stops, passed_are, stops_are, stops_fit}
+use Rattle.data_url.proofs.escapes.StopBits.{marks_are, no_stops, passed_are, stops_are, stops_fit}
 use Rattle.data_url.proofs.escapes.lanes.stops_of.Goals as goal
 
 pub overflow_sub-others : goal.overflow_sub-others
@@ -22,7 +22,8 @@ overflow_sub-passed c =
 pub overflow_add-result : goal.overflow_add-result
 overflow_add-result c =
     let h = c.bits_of-hashes.ensures in
-    let t = passed_are c.args.bytes c.args.marks c.args.percents c.bits_of-hashes.result c.requires.marks c.requires.percents h in
+    let t = passed_are c.args.bytes c.args.marks c.args.percents c.bits_of-hashes.result c.requires.marks
+    c.requires.percents h in
     let s = stops_are c.args.bytes c.args.percents _ c.bits_of-hashes.result c.fits-bytes.0 c.requires.percents h t in
     stops_fit c.args.bytes c.fits-bytes.0 s
 
@@ -34,5 +35,6 @@ returns-clause-passed c =
 pub returns-clause-stops : goal.returns-clause-stops
 returns-clause-stops c =
     let h = c.bits_of-hashes.ensures in
-    let t = passed_are c.args.bytes c.args.marks c.args.percents c.bits_of-hashes.result c.requires.marks c.requires.percents h in
+    let t = passed_are c.args.bytes c.args.marks c.args.percents c.bits_of-hashes.result c.requires.marks
+    c.requires.percents h in
     stops_are c.args.bytes c.args.percents _ c.bits_of-hashes.result c.fits-bytes.0 c.requires.percents h t

@@ -1,4 +1,4 @@
-use Rattle.data_url.proofs.escapes.Blocks.{rest_marks}
+use Rattle.data_url.proofs.escapes.PackedBlocks.{rest_marks}
 use Rattle.data_url.proofs.escapes.source.last_marks.Goals as goal
 
 pub returns : goal.returns

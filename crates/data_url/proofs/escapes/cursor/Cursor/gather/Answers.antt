@@ -7,4 +7,4 @@ pub loop-len-smaller : goal.loop-len-smaller
 loop-len-smaller c =
     let m = c.in-Some.ensures.moves in
     smaller c.loop-len.self {c1 = c.loop-len.self} (length (text_of c.args.self.now)) m.1 refl (grind arith) m.0
-    c.in-Some.ensures.gathers
+    c.in-Some.ensures.gathered.gathers

@@ -1,14 +1,11 @@
 -- Some bytes are gathered; either the body ends at the place of the walk, or nothing is known about it.
-use Rattle.std.proofs.Common.{◌≤◌, length}
-use Rattle.data_url.specs.{Pieces.{has_ended, text_of}, Steps.Walk.{Gathering, Gathers}}
+use Rattle.std.proofs.Common.{length}
+use Rattle.data_url.specs.{Pieces.{has_ended, text_of}, Steps.Walk.{Gathered}}
 use Rattle.data_url.proofs.escapes.Walking.{measure}
 use Rattle.data_url.proofs.escapes.cursor.Cursor.gather.Given as goal
 
 abbrev pub invariant-loop-len : goal.invariant-loop-len
-invariant-loop-len l =
-    Gathers l.fn.self l.self l.fn.room l.room 0 l.len
-    × Gathering l.self
-    × (l.len ≤ 512)
+invariant-loop-len l = Gathered l.fn.self l.self l.fn.room l.room 0 l.len
 
 abbrev pub decreases-loop-len : goal.decreases-loop-len
 decreases-loop-len l = measure (length (text_of l.fn.self)) l.self.place (has_ended l.self.ahead)

@@ -2,13 +2,13 @@ use Rattle.std.proofs.Common.{arith, refl}
 use Rattle.data_url.proofs.{escapes.Reading.{spells_escape}, escapes.Walking.{ended_at, gathers_byte, gathers_then}}
 use Rattle.data_url.proofs.escapes.cursor.Cursor.gather_stop.Goals as goal
 
-pub returns-then-dense-clause-gathers : goal.returns-then-dense-clause-gathers
-returns-then-dense-clause-gathers c =
+pub returns-else-is_followed-clause-gathers : goal.returns-else-is_followed-clause-gathers
+returns-else-is_followed-clause-gathers c =
     gathers_then (gathers_byte (grind arith) (spells_escape c.in-Escape.ensures.stop.1).reads (grind arith))
     c.gather_escapes-len.ensures.gathers
 
-pub returns-else-dense-clause-gathers : goal.returns-else-dense-clause-gathers
-returns-else-dense-clause-gathers c =
+pub returns-then-is_followed-clause-gathers : goal.returns-then-is_followed-clause-gathers
+returns-then-is_followed-clause-gathers c =
     gathers_byte (grind arith) (spells_escape c.in-Escape.ensures.stop.1).reads (grind arith)
 
 pub returns-in-End-clause-goes : goal.returns-in-End-clause-goes

@@ -5,18 +5,18 @@ use Rattle.data_url.proofs.escapes.cursor.Cursor.next_bytes.Goals as goal
 
 pub returns-in-None-clause-gives : goal.returns-in-None-clause-gives
 returns-in-None-clause-gives c =
-    over_next c.gather-len.ensures.gathers (omega arith) c.in-None.ensures.goes c.in-None.ensures.knows
+    over_next c.gather-len.ensures.gathered.gathers (omega arith) c.in-None.ensures.goes c.in-None.ensures.knows
 
 pub returns-in-Some-Byte-clause-gives : goal.returns-in-Some-Byte-clause-gives
 returns-in-Some-Byte-clause-gives c =
     let goes = rw c.in-Some-Byte.field-0-is at c.in-Some-Byte.ensures.goes in
     rw (take_more_set c.gather-len.new.room 0 c.in-Some-Byte.byte (omega arith))
-    (takes_next (Byte c.in-Some-Byte.byte) c.gather-len.ensures.gathers (omega arith) goes)
+    (takes_next (Byte c.in-Some-Byte.byte) c.gather-len.ensures.gathered.gathers (omega arith) goes)
 
 pub returns-in-Some-Slice-clause-gives : goal.returns-in-Some-Slice-clause-gives
 returns-in-Some-Slice-clause-gives c =
     let goes = rw c.in-Some-Slice.field-0-is at c.in-Some-Slice.ensures.goes in
-    takes_next (Slice c.in-Some-Slice.slice) c.gather-len.ensures.gathers (omega arith) goes
+    takes_next (Slice c.in-Some-Slice.slice) c.gather-len.ensures.gathered.gathers (omega arith) goes
 
 pub returns-then-len-gt0-clause-gives : goal.returns-then-len-gt0-clause-gives
-returns-then-len-gt0-clause-gives c = takes_gathered c.gather-len.ensures.gathers c.if-len-gt0.true
+returns-then-len-gt0-clause-gives c = takes_gathered c.gather-len.ensures.gathered.gathers c.if-len-gt0.true

@@ -1,5 +1,5 @@
 use Rattle.std.proofs.Common.{arith, ◌+◌}
-use Rattle.data_url.proofs.escapes.{Blocks.{looking_again}, Reading.{looking_on}}
+use Rattle.data_url.proofs.escapes.{PackedBlocks.{looking_again}, BlockMarks.{looking_on}}
 use Rattle.data_url.proofs.escapes.cursor.Cursor.pass_front.Goals as goal
 
 pub returns-then-left-le-SHORT_REST-clause-looking : goal.returns-then-left-le-SHORT_REST-clause-looking

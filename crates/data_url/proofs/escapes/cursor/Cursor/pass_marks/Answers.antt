@@ -1,6 +1,7 @@
 use Rattle.std.proofs.Common.{arith, inl, inr, refl}
 use Rattle.data_url.specs.declared.escapes.cursor.Ahead.TheVariants.{Unknown}
-use Rattle.data_url.proofs.escapes.Reading.{looking_mark, looking_seen, spells_clear}
+use Rattle.data_url.proofs.escapes.BlockMarks.{looking_mark, looking_seen}
+use Rattle.data_url.proofs.escapes.Reading.{spells_clear}
 use Rattle.data_url.proofs.escapes.Walking.{ahead_is, ended_at, looking_paid, looks_then, spans_on, spans_spelled}
 use Rattle.data_url.proofs.escapes.cursor.Cursor.pass_marks.Goals as goal
 

@@ -1,5 +1,5 @@
 use Rattle.std.proofs.Common.{arith}
-use Rattle.data_url.proofs.escapes.Reading.{escape_both, escape_no_low}
+use Rattle.data_url.proofs.escapes.EscapeDigits.{escape_both, escape_no_low}
 use Rattle.data_url.proofs.escapes.source.Source.escape.Goals as goal
 
 pub returns-in_err-low-clause-found : goal.returns-in_err-low-clause-found

@@ -1,5 +1,5 @@
 use Rattle.std.proofs.Common.{arith}
-use Rattle.data_url.proofs.escapes.Reading.{block_at}
+use Rattle.data_url.proofs.escapes.BlockMarks.{block_at}
 use Rattle.data_url.proofs.escapes.source.Source.look_block.Goals as goal
 
 pub returns-clause-block : goal.returns-clause-block

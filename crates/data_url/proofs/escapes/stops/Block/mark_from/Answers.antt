@@ -1,5 +1,5 @@
 use Rattle.std.proofs.Common.{arith, refl}
-use Rattle.data_url.proofs.escapes.Reading.{block_from, found, found_none}
+use Rattle.data_url.proofs.escapes.BlockMarks.{block_from, found, found_none}
 use Rattle.data_url.proofs.escapes.stops.Block.mark_from.Goals as goal
 
 pub returns-then-marks-eq0 : goal.returns-then-marks-eq0

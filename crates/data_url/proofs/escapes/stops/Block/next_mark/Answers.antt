@@ -1,5 +1,5 @@
 use Rattle.std.proofs.Common.{arith}
-use Rattle.data_url.proofs.escapes.Reading.{looking_block, looking_seen}
+use Rattle.data_url.proofs.escapes.BlockMarks.{looking_block, looking_seen}
 use Rattle.data_url.proofs.escapes.stops.Block.next_mark.Goals as goal
 
 pub loop-place-preserved : goal.loop-place-preserved

@@ -1,6 +1,6 @@
 use Rattle.std.proofs.Common.{◌-◌, ◌≤◌, arith, drop, length-drop, take-take}
 use Rattle.std.proofs.lemmas.List.Edits.{take-paste}
-use Rattle.data_url.proofs.escapes.Reading.{drop_taken}
+use Rattle.data_url.proofs.escapes.BlockMarks.{drop_taken}
 use Rattle.data_url.proofs.forgiving_base64.held.HeldGroups.drop_first.Goals as goal
 
 pub returns-clause-bytes : goal.returns-clause-bytes

@@ -1,0 +1,220 @@
+-- Blocks of a text and their marks: lanes that are looked up in a table and compared. For `marks_of`, `look_block`
+-- and `next_mark`.
+use Rattle.std.proofs.Common.{List, [], ◌∷◌, ◌++◌, length, drop, get_or, refl, sym, ap, ◌∙◌, arith}
+use Rattle.std.proofs.Common.{bit_and, w8, Fits, ◌≢◌, inl, inr, ◌==◌, slice_range, take_all, length-take-le}
+use Rattle.std.proofs.Common.{take-take}
+use Rattle.std.proofs.Common.{eqb, eqb-true, take, ◌/◌, ◌^◌, map, min, replicate, ◌%◌}
+use Rattle.std.proofs.Common.{map-id, ◌≡◌, ℕ, zero, suc, ◌+◌, ◌-◌, ◌<◌, ◌≤◌, Bool, true, false, not, cond}
+use Rattle.std.{proofs.Common.{leb}, proofs.Math.Nat.{div-div-eq-div-mul, pow-suc}}
+use Rattle.std.proofs.lemmas.Nat.{and_le_r}
+use Rattle.std.{proofs.Math.Seq.{take-append-add}, specs.List.{list_all, prefix_len}}
+use Rattle.std.proofs.lemmas.Bool.{agree_below_at, cases_Bool, cases_lt, eqb-true}
+use Rattle.std.proofs.lemmas.List.{drop-replicate, take_rest, take-append-le, drop-map, length-map}
+use Rattle.std.proofs.lemmas.Simd.{SwzOk-from_below, get_or-swz_l_below, mask_l-mod, swz_l, run_in_chunk_le}
+use Rattle.std.proofs.lemmas.Simd.{bitmask_splat, run_in_chunk_stops, trailing_mask_l, tops_compared, zip2_of_maps}
+use Rattle.std.proofs.lemmas.Simd.{zip2_splat, none_from_empty_mask, run_in_chunk_fails, put_chunk_whole, SwzOk}
+use Rattle.std.{specs.Int.Count.{count_trailing_zeros}, specs.Simd.Lanes.{chunk, mask_l, put_chunk, Each1, top, zip2}}
+use Rattle.data_url.specs.{Steps.Window.{is_marked, is_plain}}
+use Rattle.data_url.specs.Steps.Walk.{IsClear, IsBlock, IsNextMark, Looking}
+use Rattle.data_url.specs.{declared.escapes.lanes.TheConstants.{MARKED}}
+use Rattle.data_url.specs.{declared.escapes.source.Source.{Source}, declared.escapes.stops.Block.{Block}}
+use borrow.Rule.Slice.PartMut.{mid_of, post_of, put_mid}
+pub use Rattle.std.proofs.lemmas.List.{drop_more, get_or-drop, length-drop, drop-drop, drop_all, drop-take, length-take}
+use Rattle.data_url.proofs.escapes.Reading.{escape_ends, paid_on, paid_percent}
+
+-- Blocks of a body and their marks. For `look_block` and `next_mark`.
+
+-- a block of 64 bytes of the text, copied into a buffer of 512 bytes, leaves its first `width` bytes there
+pub copied_wide : (room bytes text : List ℕ) (len width start : ℕ) → length room ≡ 512 → len + 64 ≤ 512 → width ≤ 64
+    → start + 64 ≤ length text → bytes ≡ text
+    → take (len + width) (put_mid len (len + 64 - len) room (put_chunk 0 (mid_of len (len + 64 - len) room)
+    (chunk 0 64 (take (start + 64 - start) (drop start bytes))))) ≡ take len room ++ take width (drop start text)
+copied_wide room bytes text len width start long l w h e =
+    let n : len + 64 - len ≡ 64 = omega arith in
+    let k : start + 64 - start ≡ 64 = omega arith in
+    let s = take 64 (drop start text) in
+    let post = post_of len (len + 64 - len) room in
+    let mid = mid_of len (len + 64 - len) room in
+    let front = length-take-le len room (omega arith) in
+    let few = length-take-le 64 (drop start text) (omega (arith, length-drop start text)) in
+    let size = length-take-le (len + 64 - len) (drop len room) (omega (arith, length-drop len room)) ∙ n in
+    let whole = put_chunk_whole mid s (size ∙ sym few) in
+    let joined = take-append-add (take len room) (s ++ post) width in
+    let part = take-append-le width s post (omega (arith, few)) in
+    cc (take-take 64 64 (drop start bytes) (omega arith), take-take width 64 (drop start text) w)
+
+-- zeros after the end of a text have no marks
+no_marks : (k : ℕ) → mask_l (map is_marked (replicate k 0)) ≡ 0
+no_marks zero = refl
+no_marks (suc k) = let e = no_marks k in omega arith
+
+-- zeros that are appended do not change the marks
+pub marks_padded : (xs : List ℕ) (k : ℕ) → mask_l (map is_marked (xs ++ replicate k 0)) ≡ mask_l (map is_marked xs)
+marks_padded [] k = no_marks k
+marks_padded (x ∷ xs) k = grind (arith, marks_padded xs k)
+
+-- fewer than 64 bytes, copied into a block of zeros
+pub padded_is : (rest new zeros : List ℕ) (k : ℕ) → new ≡ rest → zeros ≡ replicate 64 0 → k ≡ length rest
+    → put_mid 0 k zeros new ≡ rest ++ replicate (64 - length rest) 0
+padded_is rest new zeros k e z l = cc (ap (drop k) z, drop-replicate {X = ℕ} k 64 0)
+
+-- the marks of the first 64 bytes from an index on, or of fewer, are those of the block there
+pub block_at : (text bytes : List ℕ) (place seen marks : ℕ) → bytes ≡ text → place ≤ length text
+    → seen ≡ min (place + 64) (length text)
+    → marks ≡ mask_l (map is_marked (take 64 (take (length bytes - place) (drop place bytes))))
+    → IsBlock text place seen marks
+block_at text bytes place seen marks e l s m =
+    let n = length-drop place text in
+    let all : take (length bytes - place) (drop place bytes) ≡ drop place text = cc (take_rest bytes place) in
+    let same : take 64 (drop place text) ≡ slice_range text place seen = elim (cases_lt 64 (length text - place)) [
+      | inl h ↦ let k : 64 ≡ seen - place = omega arith in ap (λ i. take i (drop place text)) k
+      | inr h ↦ take_all 64 (drop place text) (omega arith)
+          ∙ sym (take_all (seen - place) (drop place text) (omega arith))
+    ] in
+    record { base_le = omega arith; seen_le = omega arith; short = omega arith; marks_are = cc }
+
+-- a mask that is shifted by k bits is the mask of the list without its first k items
+pub mask_later : (bs : List Bool) (k : ℕ) → mask_l bs / 2 ^ k ≡ mask_l (drop k bs)
+mask_later bs zero = omega arith
+mask_later [] (suc k) = omega arith
+mask_later (b ∷ bs) (suc k) =
+    grind (arith, pow-suc 2 k, div-div-eq-div-mul (mask_l (b ∷ bs)) 2 (2 ^ k), cases_Bool b, mask_later bs k)
+
+-- the first n items without the first k are n - k items after the first k
+pub drop_taken : (k n : ℕ) (xs : List ℕ) → drop k (take n xs) ≡ take (n - k) (drop k xs)
+drop_taken k n xs = grind (arith, cases_lt n k, drop-take k (n - k) xs, drop_all k (take n xs), length-take)
+
+-- The marks of a block: lanes that are looked up in a table and compared.
+
+-- the low half of a byte
+abbrev pub low_half : ℕ → ℕ
+low_half b = bit_and b 15
+
+-- the low halves of 64 bytes, as lanes compute them
+abbrev pub lows : List ℕ → List ℕ
+lows v = zip2 bit_and v (replicate 64 15)
+
+-- what lanes compute is the low half of each byte
+pub lows_are : (v : List ℕ) → length v ≡ 64 → lows v ≡ map low_half v
+lows_are v long = zip2_splat bit_and v 64 15 long
+
+-- each low half of a list of bytes is below 16
+each_low : (v : List ℕ) → Each1 (λ j. j < 16) (map low_half v)
+each_low [] = tt
+each_low (b ∷ v) = (grind (arith, and_le_r), each_low v)
+
+-- the low halves satisfy the swizzle's precondition
+pub lows_ok : (v : List ℕ) → length v ≡ 64 → SwzOk w8 16 64 0 (lows v)
+lows_ok v long =
+    let l : length (map low_half v) ≡ 64 = length-map v low_half ∙ long in
+    rw (lows_are v long) (SwzOk-from_below w8 16 4 64 0 (map low_half v) refl (omega (arith, l)) (each_low v))
+
+-- the table repeats itself
+repeats : (k : ℕ) → k < 64 → get_or MARKED k 0 ≡ get_or MARKED (k % 16) 0
+repeats k l =
+    eqb-true _ _ (agree_below_at (λ k. eqb (get_or MARKED k 0) (get_or MARKED (k % 16) 0)) (λ k. true) 64 k refl l)
+
+-- the entry of a byte
+abbrev pub entry : ℕ → ℕ
+entry b = get_or MARKED (low_half b) 0
+
+-- from an index on, a swizzle of the table by the low halves of bytes looks up the entry of each byte
+looked_from : (v : List ℕ) (i : ℕ) → i + length v ≤ 64 → swz_l w8 16 MARKED i (map low_half v) ≡ map entry v
+looked_from [] i l = refl
+looked_from (b ∷ v) i l = grind (arith, looked_from v (suc i) (omega arith), and_le_r, get_or-swz_l_below, repeats)
+
+-- a swizzle by the low halves looks up the entry of each byte
+pub looked_up : (v : List ℕ) → length v ≡ 64 → swz_l w8 16 MARKED 0 (lows v) ≡ map entry v
+looked_up v long = grind (arith, swz_l, lows_are, looked_from)
+
+-- the bytes of a list that are equal to their entries are the marked ones
+marked_each : (v : List ℕ) → Each1 (Fits w8) v → map (λ b. eqb (entry b) b) v ≡ map is_marked v
+marked_each [] h = refl
+marked_each (b ∷ v) h = grind (arith, agree_below_at (λ b. eqb (entry b) b) is_marked 256 b refl, marked_each v h.1)
+
+-- the mask that lanes compute is that of the marked bytes
+pub marks_are : (v : List ℕ) → length v ≡ 64 → Each1 (Fits w8) v
+    → mask_l (map (top 7) (zip2 (λ a b. cond (eqb a b) 255 0) (swz_l w8 16 MARKED 0 (lows v)) v)) % 2 ^ 64 ≡ mask_l
+    (map is_marked v)
+marks_are v long fits =
+    let l = length-map v is_marked in
+    let e = zip2_of_maps eqb entry (λ b. b) v (looked_up v long) (sym (map-id v)) in
+    let t = tops_compared w8 eqb (swz_l w8 16 MARKED 0 (lows v)) v in
+    cc (marked_each v fits, mask_l-mod (map is_marked v) 64 (omega arith))
+
+-- if no byte is at most '%', none is marked
+none_low : (v : List ℕ) → mask_l (map (λ b. leb b 37) v) ≡ 0 → 0 ≡ mask_l (map is_marked v)
+none_low [] e = refl
+none_low (b ∷ v) e = grind (arith, none_low v)
+
+-- if a comparison of lanes finds no byte that is at most '%', none is marked
+pub none_marked : (v : List ℕ) → length v ≡ 64
+    → mask_l (map (top 7) (zip2 (λ a b. cond (leb a b) 255 0) v (replicate 64 37))) % 2 ^ 64 ≡ 0
+    → 0 ≡ mask_l (map is_marked v)
+none_marked v long e = none_low v (sym (bitmask_splat w8 leb v 64 37 long (omega arith)) ∙ e)
+
+-- if no byte is one of the three from '#' on, none is '#' or '%'
+none_stops : (v : List ℕ) → mask_l (map (λ b. leb b 2) (map (λ b. (b + 221) % 256) v)) ≡ 0 → list_all is_plain v ≡ true
+none_stops [] e = refl
+none_stops (b ∷ v) e = grind (arith, none_stops v)
+
+-- a mask that is not other than 0 is 0
+pub no_bits : (m : ℕ) → not (m == 0) ≡ false → m ≡ 0
+no_bits m e = grind arith
+
+-- if a comparison of lanes finds no such byte, there is no '#' and no '%'
+pub may_not_stop : (v : List ℕ) → length v ≡ 64
+    → mask_l (map (top 7) (zip2 (λ a b. cond (leb a b) 255 0) (zip2 (λ a b. (a + b) % 256) v (replicate 64 221))
+    (replicate 64 2))) % 2 ^ 64 ≡ 0 → list_all is_plain v ≡ true
+may_not_stop v long e =
+    let moved = zip2_splat (λ a b. (a + b) % 256) v 64 221 long in
+    let few = length-map v (λ b. (b + 221) % 256) ∙ long in
+    none_stops v (sym (bitmask_splat w8 leb (map (λ b. (b + 221) % 256) v) 64 2 few (omega arith)) ∙ rw moved at e)
+
+-- the lemmas for `marks_of`
+pub ruleset marks = (lows_ok, marks_are, none_marked)
+
+-- if no item of a list passes a test, the mask of the items that pass is 0
+mask_none : (p : ℕ → Bool) (xs : List ℕ) → prefix_len (λ y. not (p y)) xs ≡ length xs → mask_l (map p xs) ≡ 0
+mask_none p [] h = refl
+mask_none p (x ∷ xs) h = grind (arith, mask_none p xs)
+
+-- the marks of a block, shifted by the distance from its start to an index, are those of the block from the index on
+pub block_from : {s : Source} {b : Block} {place marks : ℕ} → Looking s b place 0 → place ≤ b.seen
+    → marks ≡ b.marks / 2 ^ (place - b.base) → IsBlock s.text.now place b.seen marks
+block_from {s} {b} {place} {marks} k l e = grind (arith, mask_later, drop-map, drop_taken, drop-drop)
+
+-- when the block at an index is read, the walk can go on there
+pub looking_block : {s s' : Source} {b b' : Block} {place : ℕ} → Looking s b place 0 → b.seen ≤ place
+    → s'.text.now ≡ s.text.now → b'.base ≡ place → IsBlock s.text.now place b'.seen b'.marks
+    → s'.looks + place ≡ s.looks + b'.seen → Looking s' b' place 0
+looking_block {s} {s'} {b} {b'} {place} k l t e i n = grind arith
+
+-- if the marks of a block are not 0, their number of trailing zeros is that of the bytes before the next mark
+pub found : {text : List ℕ} {place seen marks : ℕ} (width : ℕ) → IsBlock text place seen marks → marks ≢ 0
+    → width ≡ count_trailing_zeros 64 marks → (place + width < seen) × IsNextMark text place (place + width)
+found {text} {place} {seen} {marks} width h n e =
+    let long = length-take-le (seen - place) (drop place text) (omega (arith, length-drop {A = ℕ})) in
+    grind (arith, trailing_mask_l, mask_none, run_in_chunk_le, run_in_chunk_fails, run_in_chunk_stops)
+
+-- if the marks of a block are 0, none of its bytes is marked
+pub found_none : {text : List ℕ} {place seen marks : ℕ} → IsBlock text place seen marks → marks ≡ 0
+    → IsClear text place seen
+found_none {text} {place} {seen} {marks} h e = grind (arith, none_from_empty_mask)
+
+-- the walk can go on from a later place
+pub looking_on : {s : Source} {b : Block} {place more : ℕ} (to : ℕ) → Looking s b place more → place ≤ to
+    → to ≤ length s.text.now → Looking s b to more
+looking_on {s} {b} {place} {more} to k l w = let p = paid_on s.text.now place to l in grind arith
+
+-- the walk can go on from the next mark
+pub looking_mark : {s : Source} {b : Block} {place to : ℕ} → Looking s b place 0 → IsNextMark s.text.now place to
+    → Looking s b to 0
+looking_mark {s} {b} {place} {to} k m = looking_on to k m.forward m.within
+
+-- the walk can go on at the end of its block
+pub looking_seen : {s : Source} {b : Block} {place : ℕ} → Looking s b place 0 → place ≤ b.seen → Looking s b b.seen 0
+looking_seen {s} {b} {place} k l = looking_on b.seen k l k.block.seen_le
+
+-- the lemmas for `next_mark` and `stop_at`
+pub ruleset stops = (paid_percent, escape_ends, drop_more, looking_mark, looking_seen, looking_block)

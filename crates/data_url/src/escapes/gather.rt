@@ -1,0 +1,235 @@
+//! The bytes of a body in few pieces: short stretches and the values of escapes are gathered in a buffer.
+
+#![tactic(auto, using(crate::proofs::escapes::Walking::walks))]
+
+ghost use Rattle.std.specs.Prelude.{◌≡◌, ◌+◌, ◌<◌, ◌≤◌, IfSome, false, length, slice_index, true};
+ghost use Rattle.std.specs.Option.{option_map_or};
+ghost use Rattle.data_url.specs.Pieces.{text_of, walk_of};
+ghost use Rattle.data_url.specs.Steps.Chunks.{GivesBytes};
+ghost use Rattle.data_url.specs.Steps.Walk.{Gathered, Gathering, Gathers, HasRoom, IsGathered, IsWide};
+ghost use Rattle.data_url.specs.Steps.Walk.{Knows, KnowsAhead, Looking, MayGather, Moves};
+ghost use Rattle.data_url.specs.Steps.Window.{is_marked};
+
+use super::Piece;
+use super::cursor::{Ahead, Cursor, ESCAPE};
+use super::lanes::BLOCK;
+use super::pack::SEVERAL;
+use super::stops::Stop;
+
+/// How many bytes the buffer holds in which short stretches and values of escapes are gathered.
+pub(crate) const BUFFER_LEN: usize = 512;
+
+impl<'a> Cursor<'a> {
+    /// The next bytes: a long stretch of the text, or shorter ones and the values of escapes, gathered in a buffer.
+    #[inline(always)]
+    pub(super) fn next_bytes<'r>(&mut self, room: &'r mut [u8; BUFFER_LEN]) -> Option<&'r [u8]>
+    where
+        'a: 'r,
+        requires { Knows self.old }
+        ensures gives { GivesBytes (walk_of self.old) result (walk_of self.new) }
+        ensures knows { Knows self.new }
+    {
+        let len = self.gather(room);
+        if len > 0 {
+            return Some(&room[..len]);
+        }
+        match self.next() {
+            None => None,
+            Some(Piece::Slice(slice)) => Some(slice),
+            Some(Piece::Byte(byte)) => {
+                room[0] = byte;
+                Some(&room[..1])
+            }
+        }
+    }
+
+    /// Gathers the bytes of the next pieces in a buffer while they come in short stretches, and returns how many. None
+    /// are gathered if the body ends or a long stretch begins.
+    #[inline(always)]
+    fn gather(&mut self, room: &mut [u8; BUFFER_LEN]) -> usize
+        requires { Knows self.old }
+        ensures gathered { Gathered self.old self.new room.old room.new 0 result }
+        ensures knows { Knows self.new }
+    {
+        let mut len = self.gather_known(room);
+        while len <= BUFFER_LEN - 2 * BLOCK {
+            let Some(more) = self.gather_more(room, len) else {
+                break;
+            };
+            len = more;
+        }
+        len
+    }
+
+    /// Gathers the escape that is known to be at the place.
+    #[inline(always)]
+    fn gather_known(&mut self, room: &mut [u8; BUFFER_LEN]) -> usize
+        requires { KnowsAhead self.old self.old.ahead }
+        ensures { Gathered self.old self.new room.old room.new 0 result }
+    {
+        match self.ahead {
+            Ahead::Escape(value, end) => {
+                room[0] = value;
+                self.place = end;
+                self.ahead = Ahead::Unknown;
+                1
+            }
+            Ahead::AfterEscape => {
+                self.ahead = Ahead::Unknown;
+                0
+            }
+            Ahead::Unknown | Ahead::End => 0,
+        }
+    }
+
+    /// Gathers the next block, or what is left of the last one, after the bytes that were gathered before. Returns how many
+    /// bytes are gathered then, or None if the body ends or a long stretch begins.
+    #[inline(always)]
+    fn gather_more(&mut self, room: &mut [u8; BUFFER_LEN], len: usize) -> Option<usize>
+        requires gathering { Gathering self.old }
+        requires room { len ≤ 384 }
+        ensures gathered { Gathered self.old self.new room.old room.new len
+            (option_map_or (λ n. n) result len) }
+        ensures moves { IfSome result (λ _. Moves self.old self.new
+            × (self.old.ahead ≡ Ahead.Unknown)) }
+    {
+        if self.is_over() {
+            return None;
+        }
+        if self.place >= self.block.seen {
+            if self.source.len() - self.place >= 2 * BLOCK {
+                let bytes = self.look_whole();
+                if self.block.marks.count_ones() < SEVERAL {
+                    return self.gather_sparse(room, len);
+                }
+                if let Some(more) = self.pack_whole(bytes, room, len) {
+                    return Some(more);
+                }
+            } else if let Some(more) = self.pack_end(room, len) {
+                return Some(more);
+            }
+        }
+        if len == 0 && self.block.marks == 0 {
+            return None;
+        }
+        let is_followed = self.source.len() - self.block.seen >= BLOCK;
+        Some(if is_followed {
+            self.gather_block(room, len, true)
+        } else {
+            self.gather_block(room, len, false)
+        })
+    }
+
+    /// Gathers a block with few marks, which another block follows, after the bytes that were gathered before. Returns how many
+    /// bytes are gathered then, or None if a long stretch begins.
+    #[inline(always)]
+    fn gather_sparse(&mut self, room: &mut [u8; BUFFER_LEN], len: usize) -> Option<usize>
+        requires may { MayGather self.old len }
+        requires here { self.old.place < self.old.block.seen }
+        requires wide { IsWide self.old true }
+        ensures gathered { Gathered self.old self.new room.old room.new len
+            (option_map_or (λ n. n) result len) }
+        ensures moves { IfSome result (λ _. Moves self.old self.new) }
+    {
+        if len == 0 && self.block.marks == 0 {
+            return None;
+        }
+        Some(self.gather_block(room, len, true))
+    }
+
+    /// Gathers the rest of the block that was read, after the bytes that were gathered before. If the block `is_followed` by
+    /// another one, whole blocks are copied. Otherwise escapes that follow one another are gathered without a look for marks.
+    #[inline(always)]
+    fn gather_block(&mut self, room: &mut [u8; BUFFER_LEN], len: usize, is_followed: bool) -> usize
+        requires may { MayGather self.old len }
+        requires here { self.old.place < self.old.block.seen }
+        requires wide { IsWide self.old is_followed }
+        ensures gathered { Gathered self.old self.new room.old room.new len result }
+        ensures moves { Moves self.old self.new }
+    {
+        let mut len = len;
+        while self.place < self.block.seen {
+            let place = self.place;
+            let Some(mark) = self.block.mark_from(&self.source, place) else {
+                self.source
+                    .copy(place, self.block.seen, room, len, is_followed);
+                self.place = self.block.seen;
+                return len + (self.place - place);
+            };
+            self.source.copy(place, mark, room, len, is_followed);
+            self.place = mark;
+            let (more, ended) = self.gather_stop(room, len + (mark - place), is_followed);
+            len = more;
+            if ended {
+                return len;
+            }
+        }
+        len
+    }
+
+    /// Gathers what begins at the mark at the place.
+    #[inline(always)]
+    fn gather_stop(
+        &mut self,
+        room: &mut [u8; BUFFER_LEN],
+        len: usize,
+        is_followed: bool,
+    ) -> (usize, bool)
+        requires may { MayGather self.old len }
+        requires here { self.old.place < self.old.block.seen }
+        requires wide { IsWide self.old is_followed }
+        requires marked { is_marked (slice_index (text_of self.old) self.old.place) ≡ true }
+        ensures gathers { Gathers self.old self.new room.old room.new len result.0 }
+        ensures goes { IsGathered self.old self.new result.0 result.1 }
+    {
+        let mark = self.place;
+        match self.source.stop_at(mark, is_followed) {
+            Stop::Stays => {
+                room[len] = b'%';
+                self.place = mark + 1;
+                (len + 1, false)
+            }
+            Stop::Passed => {
+                self.place = mark + 1;
+                (len, false)
+            }
+            Stop::Escape(value, end) => {
+                room[len] = value;
+                self.place = end;
+                let len = if is_followed {
+                    len + 1
+                } else {
+                    self.gather_escapes(room, len + 1)
+                };
+                (len, false)
+            }
+            Stop::End => {
+                self.ahead = Ahead::End;
+                (len, true)
+            }
+        }
+    }
+
+    /// Gathers the values of escapes that follow one another after an escape.
+    #[inline(always)]
+    fn gather_escapes(&mut self, room: &mut [u8; BUFFER_LEN], len: usize) -> usize
+        requires unknown { self.old.ahead ≡ Ahead.Unknown }
+        requires looking { Looking self.old.source self.old.block self.old.place 3 }
+        requires room { HasRoom self.old len }
+        ensures gathers { Gathers self.old self.new room.old room.new len result }
+        ensures may { MayGather self.new result }
+        ensures block { self.new.block.seen ≡ self.old.block.seen }
+    {
+        let mut len = len;
+        let end = BUFFER_LEN.min(len + (self.source.len() - self.place) / ESCAPE);
+        while len < end {
+            let Some(value) = self.source.escape_here(self.place) else {
+                return len;
+            };
+            self.place += ESCAPE;
+            room[len] = value;
+            len += 1;
+        }
+        len
+    }
+}
