@@ -20,7 +20,7 @@ use super::stops::Stop;
 pub(crate) const BUFFER_LEN: usize = 512;
 
 impl<'a> Cursor<'a> {
-    /// The next bytes: a long stretch of the text, or shorter ones and the values of escapes, gathered in a buffer.
+    /// The next bytes: a long stretch of the text, or shorter ones and the values of escapes, gathered in a buffer while they come.
     #[inline(always)]
     pub(super) fn next_bytes<'r>(&mut self, room: &'r mut [u8; BUFFER_LEN]) -> Option<&'r [u8]>
     where
@@ -29,7 +29,13 @@ impl<'a> Cursor<'a> {
         ensures gives { GivesBytes (walk_of self.old) result (walk_of self.new) }
         ensures knows { Knows self.new }
     {
-        let len = self.gather(room);
+        let mut len = self.gather_known(room);
+        while len <= BUFFER_LEN - 2 * BLOCK {
+            let Some(more) = self.gather_more(room, len) else {
+                break;
+            };
+            len = more;
+        }
         if len > 0 {
             return Some(&room[..len]);
         }
@@ -41,24 +47,6 @@ impl<'a> Cursor<'a> {
                 Some(&room[..1])
             }
         }
-    }
-
-    /// Gathers the bytes of the next pieces in a buffer while they come in short stretches, and returns how many. None
-    /// are gathered if the body ends or a long stretch begins.
-    #[inline(always)]
-    fn gather(&mut self, room: &mut [u8; BUFFER_LEN]) -> usize
-        requires { Knows self.old }
-        ensures gathered { Gathered self.old self.new room.old room.new 0 result }
-        ensures knows { Knows self.new }
-    {
-        let mut len = self.gather_known(room);
-        while len <= BUFFER_LEN - 2 * BLOCK {
-            let Some(more) = self.gather_more(room, len) else {
-                break;
-            };
-            len = more;
-        }
-        len
     }
 
     /// Gathers the escape that is known to be at the place.

@@ -2,7 +2,7 @@
 use Rattle.std.proofs.Common.{length}
 use Rattle.data_url.specs.{Pieces.{has_ended, text_of}, Steps.Walk.{Gathered}}
 use Rattle.data_url.proofs.escapes.Walking.{measure}
-use Rattle.data_url.proofs.escapes.cursor.Cursor.gather.Given as goal
+use Rattle.data_url.proofs.escapes.cursor.Cursor.next_bytes.Given as goal
 
 abbrev pub invariant-loop-len : goal.invariant-loop-len
 invariant-loop-len l = Gathered l.fn.self l.self l.fn.room l.room 0 l.len
