@@ -24,7 +24,7 @@ use Rattle.std.proofs.Math.Nat.{mod-eq_of_lt, mul_comm}
 use Rattle.std.proofs.Math.Arith.{mul_pred}
 use Rattle.std.proofs.lemmas.Nat.{pow-add, pow_pos}
 use Rattle.data_url.proofs.escapes.EscapeDigits.{begins_with_digit}
-use Rattle.data_url.specs.Steps.Escapes.{escape_starts, front_values, is_unsure, place_values, stops}
+use Rattle.data_url.specs.Steps.Escapes.{escape_starts, packed_values, is_unsure, place_values, stops}
 use Rattle.std.proofs.lemmas.Simd.{bit_mask_l, mask_l-lt}
 use Rattle.data_url.proofs.escapes.BlockMarks.{marks_padded}
 use Rattle.data_url.specs.declared.{escapes.source.Source.{Source}, escapes.stops.Block.{Block}}
@@ -183,7 +183,7 @@ front_bits bits used l =
 pub front_put : (v values : List ℕ) (begin tabs used : ℕ) → length v ≡ 64 → used ≤ 64 → values ≡ place_values v
     → begin ≡ mask_l (escape_starts v) → tabs ≡ mask_l (map is_tab_or_newline v)
     → clear values (bit_and (6 * begin + tabs) ((2 ^ 64 - 1) / 2 ^ (64 - used))
-    + (2 ^ 64 - 1 - (2 ^ 64 - 1) / 2 ^ (64 - used))) ≡ front_values v used
+    + (2 ^ 64 - 1 - (2 ^ 64 - 1) / 2 ^ (64 - used))) ≡ packed_values v used
 front_put v values begin tabs used long l vs ss ts =
     let size : length values ≡ 64 = ap length vs ∙ length-places v ∙ long in
     let bits : 6 * begin + tabs ≡ dropped v = ap₂ (λ a b. 6 * a + b) ss ts in
@@ -192,10 +192,10 @@ front_put v values begin tabs used long l vs ss ts =
 
 -- they are the part of the body
 front_decoded : {text : List ℕ} {place size used : ℕ} {v : List ℕ} → IsFront text place size v used
-    → front_values v used ≡ percent_decoding (cleaned (take used v))
+    → packed_values v used ≡ percent_decoding (cleaned (take used v))
 front_decoded {text} {place} {size} {used} {v} f =
     let long : length (take used v) ≡ used = length-take-le used v (omega (arith, block_long f, f.few, f.short)) in
-    ap₂ front_values (sym (take-append-drop used v)) (sym long)
+    ap₂ packed_values (sym (take-append-drop used v)) (sym long)
     ∙ front_packed (take used v) (drop used v) (rest_digit f)
     ∙ (front_whole f).packed_is
 

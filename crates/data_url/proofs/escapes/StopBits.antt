@@ -21,7 +21,7 @@ use Rattle.std.proofs.Math.Arith.{mod-mul}
 use Rattle.std.proofs.lemmas.Nat.{pow_pos}
 use Rattle.data_url.proofs.escapes.EscapeDigits.{begins_with_digit}
 use Rattle.data_url.proofs.forgiving_base64.Spaces.{clear_append, clear_bit}
-use Rattle.data_url.specs.Steps.Escapes.{escape_starts, first_value, front_values, is_unsure, place_values, stops}
+use Rattle.data_url.specs.Steps.Escapes.{escape_starts, first_value, packed_values, is_unsure, place_values, stops}
 use Rattle.std.proofs.lemmas.Simd.{mask_l-lt, mask_l-mod}
 use Rattle.std.specs.Int.Count.{count_trailing_zeros, under}
 use Rattle.data_url.proofs.packing.Places.{clear_low}
@@ -463,7 +463,7 @@ front_written values all bits used long l is =
     ∙ ap₂ (λ (a b : List ℕ). a ++ b) front none ∙ append-nil (clear x bits)
 
 -- the values that are written of a block are the packed bytes of its front
-pub front_packed : (x y : List ℕ) → begins_with_digit y ≡ false → front_values (x ++ y) (length x) ≡ packed x
+pub front_packed : (x y : List ℕ) → begins_with_digit y ≡ false → packed_values (x ++ y) (length x) ≡ packed x
 front_packed x y h =
     let n = length x in
     let size = length-places x in

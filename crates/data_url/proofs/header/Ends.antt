@@ -1,22 +1,22 @@
 -- Whether a header has the suffix ";base64", from its end. For callers that know only this end.
-use Rattle.std.proofs.Common.{None, Some, ap, ◌∙◌, arith, suc, Bool, true, false, ◌++◌, length-append, refl, sym, inl, inr}
+use Rattle.std.proofs.Common.{None, Some, ap, ◌∙◌, arith, Bool, true, false, ◌++◌, length-append, refl, sym, inl, inr}
 use Rattle.std.proofs.Common.{append_assoc, append-nil, ◌==◌, ◌≡◌, ◌≢◌, ℕ, ◌+◌, ◌-◌, ◌<◌, ◌≤◌, List, [], ◌∷◌, length}
-use Rattle.std.proofs.Common.{get_or, take, drop, map, codes, is_some, get_or-drop, eqb-true, take_all, length-drop}
+use Rattle.std.proofs.Common.{get_or, take, drop, map, codes, get_or-drop, eqb-true, take_all, length-drop}
 use Rattle.std.proofs.Common.{◌⊎◌, subst, take-append-drop}
 use Rattle.std.specs.Char.{to_ascii_lowercase}
 use Rattle.std.specs.Int.{is_in_range}
 use Rattle.std.specs.Prelude.{◌&&◌, ◌||◌, not}
-use Rattle.std.specs.List.{list_all, prefix_len, suffix_len}
-use Rattle.std.proofs.lemmas.Bool.{and_parts, cases_Bool, cases_lt, ne_eqb}
+use Rattle.std.specs.List.{list_all, suffix_len}
+use Rattle.std.proofs.lemmas.Bool.{and_parts, cases_Bool}
 use Rattle.std.proofs.lemmas.List.{drop-append-le, drop_all, drop_more, get_or-map, get_or_at, length-map}
 use Rattle.std.proofs.lemmas.List.Folds.{list_all_at, prefix_len-append}
-use Rattle.std.proofs.lemmas.List.Sums.{prefix_len-le-length, suffix_len-le-length}
+use Rattle.std.proofs.lemmas.List.Sums.{prefix_len-le-length}
 use Rattle.std.proofs.lemmas.Slice.Eq.{bytes_eq-Decides}
 use Rattle.data_url.specs.Fetch.{before_base64, before_word, before_semicolon, has_base64_suffix, is_space}
 use Rattle.data_url.specs.Fetch.{stripped_header}
 use Rattle.data_url.specs.Steps.Header.{header_text}
 use Rattle.data_url.specs.Steps.Split.{is_plain_path}
-use Rattle.data_url.specs.Url.{after, before, encoded_byte, in_query_set, is_tab_or_newline, percent_encoding}
+use Rattle.data_url.specs.Url.{after, before, encoded_byte, in_query_set, percent_encoding}
 use Rattle.data_url.specs.Url.{without_end, without_start, without_tabs_and_newlines}
 use Rattle.data_url.proofs.split.Cuts.{cut_at}
 use Rattle.data_url.proofs.header.Serialising.{before_last_after, last_after, no_word, suffix_stop, word}

@@ -49,8 +49,8 @@ stops [] = []
 stops (b ∷ s) = ((b == number_sign) || ((b == percent_sign) && is_unsure s)) ∷ stops s
 
 -- the values at the first places of a block, without those of the digits of escapes, and without tabs and newlines
-abbrev pub front_values : List ℕ → ℕ → List ℕ
-front_values bytes used =
+abbrev pub packed_values : List ℕ → ℕ → List ℕ
+packed_values bytes used =
     clear (take used (place_values bytes))
     (6 * mask_l (escape_starts bytes) + mask_l (map is_tab_or_newline bytes))
 
@@ -63,4 +63,4 @@ pub record IsPacked (bytes : List ℕ) (size : ℕ) (room room' : List ℕ) (len
   pub none : mask_l (stops bytes) % 2 ^ used ≡ 0
   pub stop : used < size → mask_l (stops bytes) / 2 ^ used % 2 ≡ 1
   pub short : end ≤ len + 64
-  pub room_is : take end room' ≡ take len room ++ front_values bytes used
+  pub room_is : take end room' ≡ take len room ++ packed_values bytes used

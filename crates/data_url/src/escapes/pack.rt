@@ -25,7 +25,7 @@ pub(super) const SEVERAL: u32 = 4;
 /// escapes have twelve bytes.
 const FEW: usize = 12;
 
-/// If at most this many bytes are left after the front of a block, they are read again with the next block: an escape that goes
+/// If at most this many bytes are left after what is packed of a block, they are read again with the next block: an escape that goes
 /// past the end of the block begins there.
 const SHORT_REST: usize = 2;
 
@@ -70,7 +70,7 @@ impl<'a> Cursor<'a> {
     {
         let _len = self.source.len();
         let (used, end) = pack_to_stop(bytes, self.block.marks, BLOCK, room, len)?;
-        self.pass_front(used);
+        self.pass_packed(used);
         Some(end)
     }
 
@@ -102,14 +102,14 @@ impl<'a> Cursor<'a> {
             marks,
         };
         let (used, end) = packed?;
-        self.pass_front(used);
+        self.pass_packed(used);
         Some(end)
     }
 
     /// Goes on after the first `used` bytes of the block. If only a short rest is left, it is read again with the next block. The
     /// bound on looks allows that for as many bytes as `used`.
     #[inline(always)]
-    fn pass_front(&mut self, used: usize)
+    fn pass_packed(&mut self, used: usize)
         requires looking { Looking self.old.source self.old.block self.old.place 0 }
         requires used { (12 ≤ used) × (self.old.place + used ≤ self.old.block.seen) }
         ensures looking { Looking self.new.source self.new.block self.new.place 0 }
@@ -157,8 +157,8 @@ fn pack_to_stop(
         return None;
     }
     let (values, starts) = decode_escapes(bytes, percents);
-    let front = u64::MAX >> (BLOCK - used);
-    let dropped = ((6 * starts + passed) & front) + !front;
+    let first = u64::MAX >> (BLOCK - used);
+    let dropped = ((6 * starts + passed) & first) + !first;
     Some((used, pack_block(values, dropped, &mut room[..], len)))
 }
 

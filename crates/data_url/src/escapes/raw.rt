@@ -10,13 +10,14 @@ use super::cursor::{Ahead, Cursor};
 use super::lanes::{BLOCK, marks_of, may_stop};
 use super::stops::{Block, Stop};
 
-/// How many whole blocks are passed at most, between parts of two others: 4,096 bytes together. So a fault is found before much
-/// more of the text is read.
+/// How many whole blocks a stretch goes over at most. With a part of a block before and after them it has at most 4,096 bytes. So
+/// a fault is found before much more of the text is read.
 const PLAIN_BLOCKS: usize = 62;
 
 impl<'a> Cursor<'a> {
-    /// The next raw stretch: up to an escape, the end of the body, or the end of a block after some 4,000 bytes. Returns None if
-    /// it is empty, or if something is known of the place. A `%` that begins no escape may be in it: the decoder refuses it.
+    /// The next raw stretch: up to an escape, the end of the body, or the end of a block that has a `$` or a `%` or that comes after
+    /// some 4,000 bytes. Returns None if it is empty, or if something is known of the place. A `%` that begins no escape may be in
+    /// it: the decoder refuses it.
     #[inline(always)]
     pub(super) fn next_raw(&mut self) -> Option<&'a [u8]>
         requires { Knows self.old }
@@ -33,8 +34,8 @@ impl<'a> Cursor<'a> {
         Some(self.source.cut(start, self.place))
     }
 
-    /// If nothing is known of the place, goes over whole blocks without `#` and `%`, up to 62 of them. If they are fewer, reads
-    /// the block after them.
+    /// If nothing is known of the place, goes over whole blocks without a byte from `#` to `%`, up to 62 of them. If they are fewer,
+    /// reads the block after them.
     #[inline(always)]
     fn pass_plain(&mut self)
         requires knows { KnowsAhead self.old self.old.ahead }

@@ -5,14 +5,14 @@ use Rattle.data_url.proofs.escapes.cursor.Cursor.pack_whole.Goals as goal
 pub pack_to_stop-requires-clause-marks : goal.pack_to_stop-requires-clause-marks
 pack_to_stop-requires-clause-marks c = whole_marks c.requires.may.looking.block c.requires.whole
 
-pub pass_front-requires-clause-used : goal.pass_front-requires-clause-used
-pass_front-requires-clause-used c =
+pub pass_packed-requires-clause-used : goal.pass_packed-requires-clause-used
+pass_packed-requires-clause-used c =
     let p = c.in_ok-used.ensures.packed in (p.some, omega (arith, p.few, c.requires.whole.seen_is))
 
 pub returns-clause-packed : goal.returns-clause-packed
 returns-clause-packed c =
     let p = c.in_ok-used.ensures.packed in
-    let q = c.pass_front.ensures in
+    let q = c.pass_packed.ensures in
     let w = c.requires.whole in
     let f = whole_front (omega (arith, w.seen_is, c.requires.may.looking.block.seen_le)) w.bytes_are p in
     record {
