@@ -48,7 +48,8 @@ split_first m = cc (
 )
 
 -- one parameter more
-pub split_more : (m : Mime) (read : List ℕ) (p : String Global × String Global) (rest : List (String Global × String Global))
+pub split_more : (m : Mime) (read : List ℕ) (p : String Global × String Global) (rest : List (String Global × String
+    Global))
     → IsSplit m read (p ∷ rest) → IsSplit m ((read ++ part_text p.0) ++ part_text p.1) rest
 split_more m read p rest h = cc (
   h,
@@ -171,7 +172,8 @@ pub record Written (m : Mime) (rest : List (String Global × String Global)) (ou
   pub reaches : Reaches out0 read out len
 
 -- two parts more
-reaches_parts : (out0 : List ℕ) {out mid out' : List ℕ} {len k len' : ℕ} (read a b c d : List ℕ) → Reaches out0 read out len → a ≡ c → b ≡ d
+reaches_parts : (out0 : List ℕ) {out mid out' : List ℕ} {len k len' : ℕ} (read a b c d : List ℕ) → Reaches out0 read
+    out len → a ≡ c → b ≡ d
     → Writes (part a) out len mid k → Writes (part b) mid k out' len'
     → Reaches out0 ((read ++ part c) ++ part d) out' len'
 reaches_parts out0 {out} {mid} {out'} {len} {k} {len'} read a b c d h e f v w =

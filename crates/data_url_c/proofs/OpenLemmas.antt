@@ -56,7 +56,8 @@ none_before x comma h =
     ap (λ v. v == 44) (get_or-take comma x k 0 below) ∙ p.2 k below)
 
 -- a text is what comes before its first comma, the comma, and what follows it
-pub cut_at : (x : List ℕ) (comma : ℕ) → position (λ b. b == 44) x ≡ Some comma → x ≡ take comma x ++ 44 ∷ drop (comma + 1) x
+pub cut_at : (x : List ℕ) (comma : ℕ) → position (λ b. b == 44) x ≡ Some comma → x ≡ take comma x ++ 44 ∷ drop (comma
+    + 1) x
 cut_at x comma h = let at = at_comma x comma h in cc (take-append-drop comma x, drop_more x comma 0 at.0)
 
 -- the C0 controls and spaces at the end of what follows the comma are at most as many as its bytes

@@ -263,7 +263,11 @@ plain_taken step {f} {g} {text} {flag} {r = Ok place} {r'} b t m =
       run = t.run;
       ran = t.ran;
       calls = omega (arith, t.calls);
-      gave = match_at None (refusal t.run) _ _ t.gave.1 (record { bytes_are = sym t.gave.2.alike; answer = rw m t.gave.0 });
+      gave = match_at None (refusal t.run) _ _ t.gave.1 (record {
+        bytes_are = sym t.gave.2.alike;
+        answer = rw m
+            t.gave.0;
+      });
     })
 plain_taken step {f} {g} {text} {flag} {r = Err e} {r'} b t m =
     let t = rw b at t in

@@ -115,9 +115,11 @@ module _ (v : List ℕ) (m : ℕ) (long : length v ≡ 16) (few : m ≤ 16) wher
       (λ (high : 16 ≤ m + i).
       let sum : 16 + (m + i - 16) ≡ m + i = omega (arith, high) in
       let z : zeroes 16 w8 (get_or PLACES (m + i) 0) ≡ true =
-      ap (λ k. zeroes 16 w8 (get_or PLACES k 0)) (sym sum) ∙ agree_below_at (λ k. zeroes 16 w8 (get_or PLACES (16 + k) 0)) (λ _. true) 16 (m + i - 16) refl (omega (arith, l, few)) in
+      ap (λ k. zeroes 16 w8 (get_or PLACES k 0)) (sym sum) ∙ agree_below_at (λ k. zeroes 16 w8 (get_or PLACES (16 + k)
+      0)) (λ _. true) 16 (m + i - 16) refl (omega (arith, l, few)) in
       let here = rw (place_at i l, z) at at in
-      here ∙ sym (get_or-append_right (drop m v) (replicate m 0) (16 - m) i 0 back (omega (arith, high)) ∙ get_or-replicate m (i - (16 - m)) 0 0 (omega (arith, high, l, few))))
+      here ∙ sym (get_or-append_right (drop m v) (replicate m 0) (16 - m) i 0 back (omega (arith, high))
+      ∙ get_or-replicate m (i - (16 - m)) 0 0 (omega (arith, high, l, few))))
       (cases_lt (m + i) 16))
 
 -- the bytes before a place are of a class
@@ -135,7 +137,8 @@ module _ (others bytes : List ℕ) (at : ℕ) {row : List ℕ} {b : Bool} (h : L
     (r : row ≡ take 16 (drop at bytes)) (e : b ≡ list_all (λ x. not (is_marked others x)) row) where
   -- so is the mask of a row
   row_mask : (mask_l (map (is_marked others) (take 16 (drop at bytes))) == 0) ≡ b
-  row_mask = mask_zero (is_marked others) (take 16 (drop at bytes)) ∙ ap (list_all (λ x. not (is_marked others x))) (sym r)
+  row_mask = mask_zero (is_marked others) (take 16 (drop at bytes)) ∙ ap (list_all (λ x. not (is_marked others x)))
+      (sym r)
       ∙ sym e
 
   -- if a row has no marked byte, the bytes before the end of the row are of the class, too
@@ -157,7 +160,8 @@ module _ (others bytes : List ℕ) (at : ℕ) {row : List ℕ} {b : Bool} (h : L
       f ∙ ap (λ v. count_trailing_zeros 64 (mask_l (map p v))) r ∙ trailing_mask_l p 64 found (omega arith) some in
       let few = prefix_len-le-length (λ x. not (p x)) found in
       let before = run_in_chunk_fails p bytes at 16 n 0 room counted in
-      let all : AreOf others bytes (at + n) = λ k l. ⊎_elim (h.front k) (λ (m : at ≤ k). before k m l) (cases_lt k at) in
+      let all : AreOf others bytes (at + n) = λ k l. ⊎_elim (h.front k) (λ (m : at ≤ k). before k m l) (cases_lt k at)
+      in
       (omega arith, record { within = omega arith; front = all })
 
 -- if the bit of each byte's entry in CLASSES agrees with the test p, it is set for a byte exactly if the byte passes

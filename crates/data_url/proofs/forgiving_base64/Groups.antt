@@ -173,7 +173,8 @@ over_gap text symbols p k few within is all spaces =
           cc (whole, filter-append is_symbol x (gap ++ y), filter-append is_symbol gap y, only.0, front, back, is);
     }
 
--- the symbols of the groups that a text begins with, and of white space after them, are those of a row that begins with them
+-- the symbols of the groups that a text begins with, and of white space after them, are those of a row with the same
+-- groups at its start
 pub front_symbols : (row text : List ℕ) (m k : ℕ) → take (4 * m) row ≡ take (4 * m) text
     → list_all is_symbol (take (4 * m) row) ≡ true → list_all is_ascii_whitespace (take k (drop (4 * m) text)) ≡ true
     → (list_all is_symbol_or_space (take (4 * m + k) text) ≡ true)
@@ -268,8 +269,11 @@ last_fills text old new bytes row n m after is long groups room put decodes =
     let within : 4 * m ≤ prefix_len is_symbol row = omega (arith, groups) in
     let all = all_before is_symbol row (prefix_len is_symbol row) (4 * m) passed within in
     let k : 4 * m + 0 ≡ 4 * m = omega arith in
-    let are = front_symbols row text m 0 front all refl in
-    (few, row_fills text old new bytes row n m (4 * m) room put decodes (omega (arith, groups, most, long)) long (rw k at are))
+    let are = front_symbols row text m 0 front all refl in (
+      few,
+      row_fills text old new bytes row n m (4 * m) room put decodes (omega (arith, groups, most, long)) long (rw k
+          at are),
+    )
 
 -- all that was read
 pub leaves_read : {held text rest held' : List ℕ} → Leaves held text rest held'

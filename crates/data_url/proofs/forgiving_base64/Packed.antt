@@ -36,7 +36,8 @@ first_other (suc k) [] e = absurd (omega arith)
 first_other (suc k) (x ∷ v) e = grind (arith, first_other k v)
 
 -- the symbols of one row more are packed
-pub row_symbols : (text old new v : List ℕ) (have at next : ℕ) {mask : ℕ} → filter is_symbol (take at text) ≡ take have old
+pub row_symbols : (text old new v : List ℕ) (have at next : ℕ) {mask : ℕ} → filter is_symbol (take at text) ≡ take
+    have old
     → v ≡ take 16 (drop at text) → mask ≡ others_mask v → take next new ≡ take have old ++ clear v mask
     → filter is_symbol (take (at + 16) text) ≡ take next new
 row_symbols text old new v have at next before is mask packed = cc (
@@ -85,7 +86,8 @@ symbols_back text {have} at some within is =
 
 -- the symbols before an earlier place are the first ones
 pub symbols_before : (text symbols : List ℕ) (have at n to : ℕ) → filter is_symbol (take at text) ≡ take have symbols
-    → to ≤ at → n ≤ have → n ≡ length (filter is_symbol (take to text)) → filter is_symbol (take to text) ≡ take n symbols
+    → to ≤ at → n ≤ have → n ≡ length (filter is_symbol (take to text)) → filter is_symbol (take to text) ≡ take n
+    symbols
 symbols_before text symbols have at n to all back few size =
     let front : take to (take at text) ≡ take to text = take-take to at text back in
     let parts = filter-append is_symbol (take to (take at text)) (drop to (take at text)) in

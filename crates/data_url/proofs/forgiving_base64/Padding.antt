@@ -308,7 +308,8 @@ decoded_alike x y e = cc (values_alike x y e)
 pub done_alike : (x y : List ℕ) → without_whitespace x ≡ without_whitespace y → complete_bytes x ≡ complete_bytes y
 unfolding values
 done_alike x y e =
-    let k = sym (before_compact x false) ∙ ap (λ z. filter is_symbol (before_fault false z)) e ∙ before_compact y false in
+    let k = sym (before_compact x false) ∙ ap (λ z. filter is_symbol (before_fault false z)) e ∙ before_compact y
+    false in
     done_is x ∙ ap (λ z. groups (map symbol_value z)) k ∙ sym (done_is y)
 
 -- they have the same kind

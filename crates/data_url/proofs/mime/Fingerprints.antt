@@ -55,7 +55,8 @@ module _ (bytes : List ℕ) (at b : ℕ) {bits : ℕ} (l : at + 16 ≤ length by
       let row = take 16 (drop at bytes) in
       let bit : cond (p (slice_index bytes (at + k))) 1 0 ≡ 0 =
       ap (λ c. cond (p c) 1 0) (sym (get_or-drop at bytes k 0) ∙ sym (get_or-take 16 (drop at bytes) k 0 m))
-      ∙ ap (λ v. cond v 1 0) (sym (get_or-map p row k 0 false (omega (arith, row_len bytes at l)))) ∙ sym (bit_mask_l (map p row) k)
+      ∙ ap (λ v. cond v 1 0) (sym (get_or-map p row k 0 false (omega (arith, row_len bytes at l)))) ∙ sym (bit_mask_l
+      (map p row) k)
       ∙ ap (λ n. bit_at n k) (sym e) ∙ z in
       λ same. absurd (grind (arith, same, bit))
 
@@ -88,7 +89,8 @@ cleared {n} {k} {t} z l e h c =
     rw e (bit_at-trailing_zeros w64 n (omega arith) l) in
     let less : bit_at (n - 1) k ≡ 0 = omega (arith, bit_at_and n (n - 1) k) in
     ⊎_elim (λ (a : t < k). absurd (omega (arith, lowest n k h less t a, low.1))) (λ (a : k ≤ t).
-    ⊎_elim (λ (b : k < t). absurd (omega (arith, low.2 k b))) (λ (b : t ≤ k). omega arith) (cases_lt k t)) (cases_lt t k)
+    ⊎_elim (λ (b : k < t). absurd (omega (arith, low.2 k b))) (λ (b : t ≤ k). omega arith) (cases_lt k t)) (cases_lt t
+    k)
 
 module _ (bytes : List ℕ) (pairs : List Pair) (p : Pair) (room : length bytes ≡ FINGERPRINTS_LEN)
     (h : AreFingerprints (take (length (first_of pairs)) bytes) (first_of pairs)) where

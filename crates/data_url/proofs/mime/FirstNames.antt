@@ -110,14 +110,16 @@ module _ (n : List ℕ) (pairs : List Pair) (at : ℕ) where
   row_named h =
       let p : Pair → Bool = λ q. bytes_eq q.0 n in
       let from : has_name n (drop at pairs) ≡ true = ap (has_name n) (sym (take-append-drop 16 (drop at pairs)))
-      ∙ list_any-append p (take 16 (drop at pairs)) (drop 16 (drop at pairs)) ∙ ap (λ b. b || has_name n (drop 16 (drop at pairs))) h in
+      ∙ list_any-append p (take 16 (drop at pairs)) (drop 16 (drop at pairs)) ∙ ap (λ b. b || has_name n (drop 16
+      (drop at pairs))) h in
       ap (has_name n) (sym (take-append-drop at pairs)) ∙ list_any-append p (take at pairs) (drop at pairs)
       ∙ ap (λ b. has_name n (take at pairs) || b) from ∙ or-true (has_name n (take at pairs))
 
   -- if none before a row and none of the row has it, none before the end of the row has it
   pub row_further : has_name n (take at pairs) ≡ false → has_name n (take 16 (drop at pairs)) ≡ false
       → has_name n (take (at + 16) pairs) ≡ false
-  row_further h k = rw (take-add at 16 pairs) (list_any-append (λ (p : Pair). bytes_eq p.0 n) (take at pairs) (take 16 (drop at pairs)) ∙ cc)
+  row_further h k = rw (take-add at 16 pairs) (list_any-append (λ (p : Pair). bytes_eq p.0 n) (take at pairs) (take 16
+      (drop at pairs)) ∙ cc)
 
 module _ {kept : KeptParameters} {len : ℕ} (x : IsIndexed kept)
     (e : len ≡ min LOOKED_THROUGH (length kept.pairs.items)) where
@@ -188,10 +190,12 @@ module _ {kept : KeptParameters} {len : ℕ} (x : IsIndexed kept)
           let left = length-drop at first in
           sym (list_any_at (λ (p : Pair). bytes_eq p.0 n') (take 16 (drop at first)) (place - at) ([], [])
           (omega (arith, first_len))
-          ((bytes_eq-Decides _ n').1 (ap (λ (p : Pair). p.0) same ∙ key_at ∙ s ∙ ap (map to_ascii_lowercase) (sym same_name))))
+          ((bytes_eq-Decides _ n').1 (ap (λ (p : Pair). p.0) same ∙ key_at ∙ s ∙ ap (map to_ascii_lowercase) (sym
+          same_name))))
 
       -- otherwise, the bit of this place, which is the lowest, is cleared
-      pub one_cleared : {at left t : ℕ} → NoneUnset (map to_ascii_lowercase (chars n)) (first_of (pairs_of kept)) at left
+      pub one_cleared : {at left t : ℕ} → NoneUnset (map to_ascii_lowercase (chars n)) (first_of (pairs_of kept)) at
+          left
           → left ≢ 0 → left < 2 ^ 64 → t ≡ count_trailing_zeros 64 left → place ≡ at + t
           → (map to_ascii_lowercase key ≡ map to_ascii_lowercase n → ⊥)
           → NoneUnset (map to_ascii_lowercase (chars n)) (first_of (pairs_of kept)) at (bit_and left (left - 1))

@@ -19,7 +19,8 @@ returns-clause-kept c =
     let s = c.clear_places-count.ensures in
     let t = c.clear_places-count-2.ensures in
     let high = c.clear_places-count-2.result.0 in
-    packed c.args.row _ high c.args.bytes.now c.put.new.bytes c.put-2.new.bytes c.args.at _ _ c.args.dropped c.fits-row.0
+    packed c.args.row _ high c.args.bytes.now c.put.new.bytes c.put-2.new.bytes c.args.at _ _ c.args.dropped
+    c.fits-row.0
     s.small.0 s.small.1 t.small.0 t.small.1 s.few t.few s.places t.places (omega (arith, c.requires.room)) c.put.ensures
     (omega (arith, c.requires.room, c.put.auto.bytes, s.few))
     (rw (sym (zip2_splat (λ a b. (a + b) % 256) high 16 8 t.small.0)) c.put-2.ensures)

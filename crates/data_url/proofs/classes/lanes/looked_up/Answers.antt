@@ -5,7 +5,8 @@ use Rattle.data_url.proofs.forgiving_base64.Vectors.{joined, looked_up, places_o
 use Rattle.data_url.proofs.classes.lanes.looked_up.Goals as goal
 
 pub swizzle-low : goal.swizzle-low
-swizzle-low c = places_ok (λ x. bit_and x 15) c.args.row _ c.fits-row.0 (zip2_splat bit_and c.args.row 16 15 c.fits-row.0)
+swizzle-low c = places_ok (λ x. bit_and x 15) c.args.row _ c.fits-row.0 (zip2_splat bit_and c.args.row 16 15
+    c.fits-row.0)
     (λ x h. omega (arith, and_le_r x 15)) c.fits-row.1
 
 pub swizzle-high : goal.swizzle-high

@@ -7,6 +7,8 @@ use Rattle.data_url.proofs.forgiving_base64.Vectors.{map_agree, mask_zero}
 use Rattle.data_url.proofs.forgiving_base64.alphabet.is_spaced.Goals as goal
 
 pub returns : goal.returns
-returns c = ap (λ m. eqb m 0) (c.marks.ensures ∙ ap mask_l (map_agree (is_marked SPACED) (λ b. not (is_symbol_or_space b))
-    (λ b l. agree_below_at (is_marked SPACED) (λ b. not (is_symbol_or_space b)) 256 b refl l) c.args.bytes c.fits-bytes.1))
+returns c = ap (λ m. eqb m 0) (c.marks.ensures ∙ ap mask_l (map_agree (is_marked SPACED) (λ b. not (is_symbol_or_space
+    b))
+    (λ b l. agree_below_at (is_marked SPACED) (λ b. not (is_symbol_or_space b)) 256 b refl l) c.args.bytes
+    c.fits-bytes.1))
     ∙ mask_zero is_symbol_or_space c.args.bytes

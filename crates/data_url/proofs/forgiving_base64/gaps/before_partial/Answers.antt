@@ -12,7 +12,8 @@ loop-have-preserved-then-is_symbol c =
     record {
       fewer = omega (arith, i.fewer);
       back = omega (arith, i.back);
-      symbols = (symbols_back c.args.text.now c.loop-have.at some (omega (arith, i.back, c.requires.within)) i.symbols).0
+      symbols = (symbols_back c.args.text.now c.loop-have.at some (omega (arith, i.back, c.requires.within))
+          i.symbols).0
           (cc (c.is_symbol.ensures, c.if-is_symbol.true));
     }
 
@@ -23,6 +24,7 @@ loop-have-preserved c =
     record {
       fewer = omega (arith, i.fewer);
       back = omega (arith, i.back);
-      symbols = (symbols_back c.args.text.now c.loop-have.at some (omega (arith, i.back, c.requires.within)) i.symbols).1
+      symbols = (symbols_back c.args.text.now c.loop-have.at some (omega (arith, i.back, c.requires.within))
+          i.symbols).1
           (cc (c.is_symbol.ensures, c.if-is_symbol.false));
     }

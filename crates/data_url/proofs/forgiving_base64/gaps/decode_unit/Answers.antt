@@ -9,7 +9,11 @@ pub loop-index-preserved : goal.loop-index-preserved
 loop-index-preserved c =
     let l = c.loop-index in
     decodes_more c.args.symbols.now c.args.bytes.now l.bytes c.put.new.bytes c.decode_row.result c.args.at l.index
-    (omega (arith, c.requires.room, l.auto.bytes, c.loop-index-test.true)) (omega (arith, c.requires.long, c.loop-index-test.true)) l.invariant c.put.ensures
+    (omega (arith, c.requires.room, l.auto.bytes, c.loop-index-test.true)) (omega (
+      arith,
+      c.requires.long,
+      c.loop-index-test.true,
+    )) l.invariant c.put.ensures
     (rw c.row.ensures at c.decode_row.ensures.bytes)
 
 pub returns : goal.returns

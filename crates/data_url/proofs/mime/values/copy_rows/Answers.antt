@@ -8,7 +8,8 @@ pub returns-then-not-is_unmarked : goal.returns-then-not-is_unmarked
 returns-then-not-is_unmarked c =
     let i = c.loop-copied.invariant in
     let h = row_front ESCAPED c.args.text.now c.loop-copied.copied i.front (omega (arith, c.loop-copied-test.true))
-    c.row-row.ensures c.is_unmarked.ensures _ c.if-not-is_unmarked.true (ap (count_trailing_zeros 64) c.marks.ensures) in
+    c.row-row.ensures c.is_unmarked.ensures _ c.if-not-is_unmarked.true (ap (count_trailing_zeros 64) c.marks.ensures)
+    in
     record {
       within = h.1.within;
       copied = copies_on c.put.new.bytes _ i (omega arith) c.row-row.ensures c.put.ensures h.0;
