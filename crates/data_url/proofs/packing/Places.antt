@@ -17,8 +17,19 @@ use lib.Dec.{T}
 use lib.Lanes.{Each1, all_below, pick_l}
 use Rattle.data_url.specs.Steps.Groups.{clear}
 use Rattle.data_url.specs.declared.packing.TheConstants.{PLACES}
-use Rattle.data_url.proofs.forgiving_base64.Vectors.{looked_at}
+use Rattle.std.proofs.Common.{ext_get_or}
+use Rattle.std.proofs.lemmas.List.{get_or-map}
+use Rattle.std.proofs.lemmas.Simd.{Each1-get_or, get_or-swz_l_below, length-swz_l}
 use Rattle.data_url.proofs.forgiving_base64.Spaces.{alike, alike_same, clear_append, clear_map}
+
+-- for 16 indices below 16, a swizzle looks up the item at each index
+looked_at : (t js : List ℕ) → length js ≡ 16 → Each1 (λ j. j < 16) js
+    → swz_l w8 16 t 0 js ≡ map (λ j. get_or t j 0) js
+looked_at t js long small =
+    let size = length-swz_l w8 16 t 0 js in
+    ext_get_or 0 _ _ (size ∙ sym (length-map js (λ j. get_or t j 0))) (λ i h.
+    let below = Each1-get_or (λ j. j < 16) js i 0 in
+    grind (arith, get_or-swz_l_below w8 16 t 0 js i, get_or-map (λ j. get_or t j 0) js i 0 0))
 
 -- whether all items are below 8
 abbrev are_small : List ℕ → Bool

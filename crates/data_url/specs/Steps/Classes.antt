@@ -1,5 +1,5 @@
 -- Classes of bytes, which are looked up in tables.
-use Rattle.std.specs.Prelude.{◌/◌, ◌<◌, ◌==◌, ◌≡◌, Bool, List, bit_and, false, not, slice_index, ℕ}
+use Rattle.std.specs.Prelude.{◌/◌, ◌%◌, ◌<◌, ◌≤◌, ◌==◌, ◌≡◌, Bool, List, bit_and, false, length, not, slice_index, ℕ}
 use Rattle.data_url.specs.CodePoints.{is_http_whitespace, is_token}
 use Rattle.data_url.specs.Steps.Split.{is_plain_path}
 use Rattle.data_url.specs.Steps.Parsing.{is_escaped, is_quotable_byte, is_unquoted_byte}
@@ -15,6 +15,11 @@ in_class Unquoted = is_unquoted_byte
 in_class PlainPath = is_plain_path
 in_class Whitespace = is_http_whitespace
 in_class Unescaped = λ b. not (is_escaped b)
+
+-- the first n entries of a table are its first sixteen, again and again
+pub record Repeats (table : List ℕ) (n : ℕ) : Type 0 where
+  pub long : n ≤ length table
+  pub same : (k : ℕ) → k < n → slice_index table k ≡ slice_index table (k % 16)
 
 -- what a byte's entries in the two tables have in common, one for each half of the byte; 0 only for a byte of the class
 abbrev pub looked_up : List ℕ → ℕ → ℕ

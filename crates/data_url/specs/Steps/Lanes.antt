@@ -17,6 +17,11 @@ abbrev pub numbers : List ℕ → List ℕ
 numbers (p ∷ q ∷ r ∷ s ∷ rest) = group_number p q r s ∷ numbers rest
 numbers vs = []
 
+-- the three lowest bytes of each number, the most significant one first
+abbrev pub number_bytes : List ℕ → List ℕ
+number_bytes [] = []
+number_bytes (n ∷ ns) = n / 65536 % 256 ∷ n / 256 % 256 ∷ n % 256 ∷ number_bytes ns
+
 -- the groups of symbols that a row begins with are decoded at the front of the bytes
 abbrev pub DecodesFront : List ℕ → List ℕ → Type 0
 DecodesFront row bytes = (m : ℕ) → m ≤ 4 → IsTrue (list_all is_symbol (take (4 * m) row))

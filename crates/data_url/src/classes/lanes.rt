@@ -1,18 +1,24 @@
-//! Rows of sixteen bytes: how they are read and written, and the classes of their bytes.
+//! Rows of sixteen bytes: how they are read and written, and the classes of their bytes. Blocks of 64 bytes are tested alike.
 
 ghost use Rattle.std.specs.Prelude.{◌≡◌, ◌+◌, ◌-◌, ◌++◌, ◌≤◌, drop, length, map, not, replicate, take};
 ghost use Rattle.std.specs.List.{list_all};
 ghost use Rattle.std.specs.Simd.Lanes.{mask_l};
-ghost use Rattle.data_url.specs.Steps.Classes.{AreOf, is_marked, looked_up};
+ghost use Rattle.data_url.specs.Steps.Classes.{AreOf, Repeats, is_marked, looked_up};
 
 use std::simd::prelude::*;
 
 /// How many bytes are tested together.
 pub(crate) const ROW: usize = 16;
 
-/// Has, for each high half of a byte, the bit of its column. Bytes from 0x10 to 0x1F and from 0x80 on share one bit.
+/// Has, for each high half of a byte, the bit of its column, once for each sixteen lanes. Bytes from 0x10 to 0x1F and from 0x80 on
+/// share one bit.
 #[rattlefmt::skip]
-const COLUMNS: [u8; 16] = [1, 128, 2, 4, 8, 16, 32, 64, 128, 128, 128, 128, 128, 128, 128, 128];
+const COLUMNS: [u8; 64] = [
+    1, 128, 2, 4, 8, 16, 32, 64, 128, 128, 128, 128, 128, 128, 128, 128,
+    1, 128, 2, 4, 8, 16, 32, 64, 128, 128, 128, 128, 128, 128, 128, 128,
+    1, 128, 2, 4, 8, 16, 32, 64, 128, 128, 128, 128, 128, 128, 128, 128,
+    1, 128, 2, 4, 8, 16, 32, 64, 128, 128, 128, 128, 128, 128, 128, 128,
+];
 
 /// The row of a text that begins at a place.
 #[inline(always)]
@@ -60,31 +66,54 @@ pub(crate) fn spliced(first: u8x16, second: u8x16, at: usize) -> u8x16
         .select(first, second)
 }
 
-/// Looks up both halves of each byte of a row. Returns the bits that their entries have in common: none only where the
-/// byte is in the class.
+/// Looks up both halves of each byte of a row. Returns the bits that their entries have in common: none only where the byte is
+/// in the class.
 #[inline(always)]
-fn looked_up(others: [u8; 16], row: u8x16) -> u8x16
-    ensures { result ≡ map (looked_up others) row }
+fn looked_up(others: &[u8], bytes: u8x16) -> u8x16
+    requires { 16 ≤ length others.now }
+    ensures { result ≡ map (looked_up others.now) bytes }
 {
-    let low = u8x16::from_array(others).swizzle_dyn(row & u8x16::splat(15));
-    let high = u8x16::from_array(COLUMNS).swizzle_dyn(row >> u8x16::splat(4));
+    let low = row(others, 0).swizzle_dyn(bytes & u8x16::splat(15));
+    let high = row(&COLUMNS, 0).swizzle_dyn(bytes >> u8x16::splat(4));
+    low & high
+}
+
+/// Looks up both halves of each byte of a block, as `looked_up` does for a row.
+#[inline(always)]
+fn looked_up_in_block(others: &[u8], block: u8x64) -> u8x64
+    requires { Repeats others.now 64 }
+    ensures { result ≡ map (looked_up others.now) block }
+{
+    let low = u8x64::from_slice(others).swizzle_dyn_within::<16>(block & u8x64::splat(15));
+    let high = u8x64::from_array(COLUMNS).swizzle_dyn_within::<16>(block >> u8x64::splat(4));
     low & high
 }
 
 /// Returns a bit for each byte of a row, which is set where the byte may be outside a class.
 #[inline(always)]
-pub(crate) fn marks(others: [u8; 16], row: u8x16) -> u64
-    ensures { result ≡ mask_l (map (is_marked others) row) }
+pub(crate) fn marks(others: &[u8], row: u8x16) -> u64
+    requires { 16 ≤ length others.now }
+    ensures { result ≡ mask_l (map (is_marked others.now) row) }
 {
     looked_up(others, row).simd_ne(u8x16::splat(0)).to_bitmask()
 }
 
 /// Whether no byte of a row is marked. As a test for a branch, this takes fewer instructions than the bits of `marks`.
 #[inline(always)]
-pub(crate) fn is_unmarked(others: [u8; 16], row: u8x16) -> bool
-    ensures { result ≡ list_all (λ b. not (is_marked others b)) row }
+pub(crate) fn is_unmarked(others: &[u8], row: u8x16) -> bool
+    requires { 16 ≤ length others.now }
+    ensures { result ≡ list_all (λ b. not (is_marked others.now b)) row }
 {
     looked_up(others, row).reduce_or() == 0
+}
+
+/// Whether no byte of a block is marked.
+#[inline(always)]
+pub(crate) fn is_block_unmarked(others: &[u8], block: u8x64) -> bool
+    requires { Repeats others.now 64 }
+    ensures { result ≡ list_all (λ b. not (is_marked others.now b)) block }
+{
+    looked_up_in_block(others, block).reduce_or() == 0
 }
 
 /// Returns how many bytes come before the first marked byte of the whole rows, or the length of these rows if there is none.
@@ -98,8 +127,8 @@ pub(crate) fn rows_len(others: [u8; 16], bytes: &[u8]) -> usize
     let mut at = 0;
     while at < end {
         let row = row(bytes, at);
-        if !is_unmarked(others, row) {
-            return at + marks(others, row).trailing_zeros() as usize;
+        if !is_unmarked(&others, row) {
+            return at + marks(&others, row).trailing_zeros() as usize;
         }
         at += ROW;
     }

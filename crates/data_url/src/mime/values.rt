@@ -97,8 +97,8 @@ fn copy_rows(text: &[u8], value: &mut [u8], len: usize) -> usize
     while text.len() - copied >= ROW {
         let row = row(text, copied);
         put(value, len + copied, row);
-        if !is_unmarked(ESCAPED, row) {
-            return copied + marks(ESCAPED, row).trailing_zeros() as usize;
+        if !is_unmarked(&ESCAPED, row) {
+            return copied + marks(&ESCAPED, row).trailing_zeros() as usize;
         }
         copied += ROW;
     }

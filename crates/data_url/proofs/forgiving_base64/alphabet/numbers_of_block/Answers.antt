@@ -1,7 +1,7 @@
 use Rattle.std.proofs.lemmas.Simd.{dot4_Fits}
 use Rattle.data_url.specs.declared.forgiving_base64.alphabet.TheConstants.{LOWER_WEIGHTS, UPPER_WEIGHTS}
-use Rattle.data_url.proofs.forgiving_base64.Vectors.{numbers_is}
-use Rattle.data_url.proofs.forgiving_base64.alphabet.numbers_of.Goals as goal
+use Rattle.data_url.proofs.forgiving_base64.Lanes.{computed_is}
+use Rattle.data_url.proofs.forgiving_base64.alphabet.numbers_of_block.Goals as goal
 
 pub dot4-upper : goal.dot4-upper
 dot4-upper c = (dot4_Fits c.args.values UPPER_WEIGHTS c.fits-values.1 tt, tt)
@@ -10,4 +10,4 @@ pub dot4-lower : goal.dot4-lower
 dot4-lower c = (dot4_Fits c.args.values LOWER_WEIGHTS c.fits-values.1 tt, tt)
 
 pub returns : goal.returns
-returns c = numbers_is c.args.values c.fits-values.0 c.fits-values.1
+returns c = computed_is 16 c.args.values c.fits-values.0 c.fits-values.1

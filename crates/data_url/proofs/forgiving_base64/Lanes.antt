@@ -1,0 +1,238 @@
+-- Symbols of base64 in 16 lanes and in 64. For `alphabet.rt`, `blocks.rt` and `classes/lanes.rt`.
+use Rattle.std.proofs.Common.{List, [], ◌∷◌, ◌++◌, map, ◌≡◌, ℕ, ◌<◌, ◌≤◌, true, eqb, get_or, Fits, w8, w32, ap, length}
+use Rattle.std.proofs.Common.{◌+◌, ◌*◌, ◌/◌, ◌%◌, ◌^◌, refl, sym, ◌∙◌, ap₂, arith, suc, zero, take, drop}
+use Rattle.std.proofs.Common.{take-add, replicate}
+use Rattle.std.specs.List.{range_with_len, list_all}
+use Rattle.std.proofs.lemmas.List.{drop_all, drop_more, length-map, take-map, take-take}
+use Rattle.std.proofs.lemmas.Simd.{SwzOk, SwzOk-from_below, swz_l, get_or_narrower, below_from_Fits, pick_l_left, pick_l-range_with_len}
+use Rattle.data_url.specs.{Base64.{group_number, groups, is_symbol, symbol_value}}
+use Rattle.data_url.specs.Steps.Lanes.{DecodesFront, offset_row, number_bytes, numbers, value_of}
+use Rattle.data_url.proofs.forgiving_base64.Vectors.{chosen, joined, each_map, each_take, front_values, put_three}
+use Rattle.data_url.specs.Steps.Classes.{Repeats}
+use Rattle.std.proofs.Common.{get_or-take, cond, eqb-true}
+use Rattle.std.proofs.lemmas.Bool.{agree_below, agree_below_at, ltb-true}
+use Rattle.std.proofs.Math.Dec.{ltb}
+use Rattle.std.proofs.lemmas.Simd.{splat_is_map, tops_compared, zip2_splat}
+use lib.Lanes.{sel_l, top, Each1, all_below, digits_l, number_l, pair_sums, pick_l, products, zip2}
+use lib.Dec.{T}
+
+-- Looking up
+
+-- if indices below 16 are computed from the bytes of n rows, the swizzle's precondition is satisfied
+pub places_ok : (g : ℕ → ℕ) (n : ℕ) (v js : List ℕ) → length v ≡ n → n % 16 ≡ 0 → js ≡ map g v
+    → ((x : ℕ) → x < 256 → g x < 16) → Each1 (Fits w8) v → SwzOk w8 16 n 0 js
+places_ok g n v js long rows e small fits =
+    SwzOk-from_below w8 16 (n / 16) n 0 js (omega (arith, rows)) (omega (arith, ap length e, length-map v g, long))
+    (rw e (each_map (Fits w8) (λ j. j < 16) g (λ x h. small x h.fits) v fits))
+
+-- from a lane on, a swizzle looks up the entry of each byte at its index
+looked_from : (t : List ℕ) (g : ℕ → ℕ) (n : ℕ) → n % 16 ≡ 0 → Repeats t n → ((x : ℕ) → x < 256 → g x < 16) → (v : List
+    ℕ)
+    → Each1 (Fits w8) v → (i : ℕ) → i + length v ≤ n
+    → swz_l w8 16 (take n t) i (map g v) ≡ map (λ x. get_or t (g x) 0) v
+looked_from t g n rows same small [] fits i l = refl
+looked_from t g n rows same small (b ∷ v) fits i l =
+    let rest = looked_from t g n rows same small v fits.1 (suc i) (omega (arith, l)) in
+    let j = small b fits.0.fits in
+    let within : 16 * (i / 16) + g b < n = omega (arith, l, rows, j) in
+    let lane : (16 * (i / 16) + g b) % 16 ≡ g b = omega (arith, j) in
+    let entry = get_or-take n t (16 * (i / 16) + g b) 0 within ∙ same.same (16 * (i / 16) + g b) within
+    ∙ ap (λ k. get_or t k 0) lane in
+    grind (arith, rest, j, entry)
+
+-- a swizzle looks up the entry of each byte at its index
+pub looked_up : (t : List ℕ) (g : ℕ → ℕ) (n : ℕ) (v js : List ℕ) → length v ≡ n → n % 16 ≡ 0 → Repeats t n
+    → Each1 (Fits w8) v → js ≡ map g v → ((x : ℕ) → x < 256 → g x < 16)
+    → swz_l w8 16 (take n t) 0 js ≡ map (λ x. get_or t (g x) 0) v
+looked_up t g n v js long rows same fits e small =
+    ap (swz_l w8 16 (take n t) 0) e ∙ looked_from t g n rows same small v fits 0 (omega (arith, long))
+
+-- a table that is computed to repeat its first sixteen entries
+pub repeats : (t : List ℕ) (n : ℕ) → n ≤ length t
+    → agree_below (λ k. eqb (get_or t k 0) (get_or t (k % 16) 0)) (λ _. true) 64 ≡ true → n ≤ 64 → Repeats t n
+repeats t n long h few = record {
+  long = long;
+  same = λ k l. eqb-true _ _ (agree_below_at (λ k. eqb (get_or t k 0) (get_or t (k % 16) 0)) (λ _. true) 64 k h
+      (omega (arith, l, few)));
+}
+
+-- each table repeats its first sixteen entries up to there
+pub repeats_row : (t : List ℕ) → 16 ≤ length t → Repeats t 16
+repeats_row t long = record { long = long; same = λ k l. let e : k ≡ k % 16 = omega (arith, l) in ap (λ k. get_or t k
+    0) e }
+
+-- the index of each byte in the table of offsets is below 16
+pub row_small : (x : ℕ) → x < 256 → offset_row x < 16
+row_small x h = ltb-true (offset_row x) 16 (agree_below_at (λ b. ltb (offset_row b) 16) (λ b. true) 256 x refl h)
+
+-- the high halves, minus one for a slash, are the indices in the table of offsets
+pub offset_rows : (n : ℕ) (v : List ℕ) → length v ≡ n
+    → zip2 (λ a b. (a + b) % 256) (zip2 (λ a b. a / 2 ^ b) v (replicate n 4))
+    (sel_l (map (top 7) (zip2 (λ a b. cond (eqb a b) 255 0) v (replicate n 47))) (replicate n 255) (replicate n 0))
+    ≡ map offset_row v
+offset_rows n v long = joined (λ a b. (a + b) % 256) (λ x. x / 16) (λ x. cond (eqb x 47) 255 0) v
+    (zip2_splat (λ a b. a / 2 ^ b) v n 4 long)
+    (chosen (λ x. eqb x 47) (λ x. 255) (λ x. 0) v (tops_compared w8 eqb v _ ∙ zip2_splat eqb v n 47 long)
+    (splat_is_map v n 255 long) (splat_is_map v n 0 long))
+
+-- Numbers of groups
+
+-- the weights of n groups
+abbrev pub upper : ℕ → List ℕ
+upper zero = []
+upper (suc n) = 64 ∷ 1 ∷ 0 ∷ 0 ∷ upper n
+
+abbrev pub lower : ℕ → List ℕ
+lower zero = []
+lower (suc n) = 0 ∷ 0 ∷ 64 ∷ 1 ∷ lower n
+
+-- the sum of two numbers, modulo 2 ^ 32
+abbrev add32 : ℕ → ℕ → ℕ
+add32 a b = (a + b) % 2 ^ 32
+
+-- a, shifted to the left by b bits, modulo 2 ^ 32
+abbrev shl32 : ℕ → ℕ → ℕ
+shl32 a b = a * 2 ^ b % 2 ^ 32
+
+-- the numbers of n groups, as lanes compute them
+abbrev pub computed : ℕ → List ℕ → List ℕ
+computed n v =
+    zip2 add32 (zip2 shl32 (pair_sums (pair_sums (products v (upper n)))) (replicate n 12))
+    (pair_sums (pair_sums (products v (lower n))))
+
+-- the number of a group, as a lane computes it
+word : (a b c d : ℕ) → a < 256 → b < 256 → c < 256 → d < 256
+    → add32 (shl32 ((a * 64 + b * 1) + (c * 0 + d * 0)) 12) ((a * 0 + b * 0) + (c * 64 + d * 1)) ≡ group_number a b c d
+word a b c d p q r s = omega arith
+
+-- from the bytes of n groups, lanes compute the numbers of these groups
+pub computed_is : (n : ℕ) (v : List ℕ) → length v ≡ 4 * n → Each1 (Fits w8) v → computed n v ≡ numbers v
+computed_is zero [] long fits = refl
+computed_is zero (a ∷ v) long fits = absurd (omega (arith, long))
+computed_is (suc n) [] long fits = absurd (omega (arith, long))
+computed_is (suc n) (a ∷ []) long fits = absurd (omega (arith, long))
+computed_is (suc n) (a ∷ b ∷ []) long fits = absurd (omega (arith, long))
+computed_is (suc n) (a ∷ b ∷ c ∷ []) long fits = absurd (omega (arith, long))
+computed_is (suc n) (a ∷ b ∷ c ∷ d ∷ v) long fits =
+    ap₂ (λ x (y : List ℕ). x ∷ y)
+    (word a b c d fits.0.fits fits.1.0.fits fits.1.1.0.fits fits.1.1.1.0.fits)
+    (computed_is n v (omega (arith, long)) fits.1.1.1.1)
+
+-- Bytes of numbers
+
+-- the places of the bytes of n numbers from number k on
+abbrev pub order : ℕ → ℕ → List ℕ
+order k zero = []
+order k (suc n) = (4 * k + 2) ∷ (4 * k + 1) ∷ (4 * k + 0) ∷ order (suc k) n
+
+-- if a list has the bytes of numbers, picking them in that order gives the three lowest of each
+picked : (t : ℕ) (bytes ns : List ℕ)
+    → ((j i : ℕ) → i < 4 → 4 * j + i < 4 * t → get_or bytes (4 * j + i) 0 ≡ get_or ns j 0 / 256 ^ i % 256)
+    → length ns ≡ t → (k n : ℕ) → k + n ≡ t → pick_l 0 bytes (order k n) ≡ number_bytes (drop k ns)
+picked t bytes ns at long k zero e = sym (ap number_bytes (drop_all k ns (omega (arith, long, e))))
+picked t bytes ns at long k (suc n) e =
+    let rest = picked t bytes ns at long (suc k) n (omega (arith, e)) in
+    let first = drop_more ns k 0 (omega (arith, long, e)) in
+    grind (
+      arith,
+      rest,
+      first,
+      at k 2 (omega arith) (omega (arith, e)),
+      at k 1 (omega arith) (omega (arith, e)),
+      at k 0 (omega arith) (omega (arith, e)),
+    )
+
+-- the bytes of t numbers, picked in that order
+pub bytes_are : (t : ℕ) (ns : List ℕ) → length ns ≡ t → Each1 (Fits w32) ns
+    → pick_l 0 (digits_l 256 (4 * t) (number_l 4294967296 ns)) (order 0 t) ≡ number_bytes ns
+bytes_are t ns long fits =
+    picked t (digits_l 256 (4 * t) (number_l 4294967296 ns)) ns
+    (λ j i few within. get_or_narrower 4294967296 4 256 (4 * t) ns j i refl (below_from_Fits w32 ns fits) few within)
+    long 0 t (omega arith)
+
+-- three bytes of the number of four values
+group_same : (p q r s : ℕ) → p < 64 → q < 64 → r < 64 → s < 64
+    → group_number p q r s / 65536 % 256 ≡ group_number p q r s / 65536
+group_same p q r s a b c d = omega arith
+
+-- the bytes of the numbers of values are those of their groups
+groups_are : (v : List ℕ) → Each1 (λ x. x < 64) v → number_bytes (numbers v) ≡ groups v
+unfolding groups
+groups_are [] small = refl
+groups_are (p ∷ []) small = refl
+groups_are (p ∷ q ∷ []) small = refl
+groups_are (p ∷ q ∷ r ∷ []) small = refl
+groups_are (p ∷ q ∷ r ∷ s ∷ v) small =
+    let rest = groups_are v small.1.1.1.1 in
+    let top = group_same p q r s small.0 small.1.0 small.1.1.0 small.1.1.1.0 in
+    let n = group_number p q r s in
+    ap₂ (λ x (y : List ℕ). x ∷ n / 256 % 256 ∷ n % 256 ∷ y) top rest
+
+-- Rows
+
+-- what holds with four more values
+four : (m : ℕ) (v : List ℕ) → take (suc m) (numbers v) ≡ numbers (take (suc (suc (suc (suc (4 * m))))) v)
+    → take (suc m) (numbers v) ≡ numbers (take (4 * suc m) v)
+four m v h = let e : 4 * suc m ≡ suc (suc (suc (suc (4 * m)))) = omega arith in rw e h
+
+-- the first m numbers are those of the first m groups
+front_numbers : (m : ℕ) (v : List ℕ) → take m (numbers v) ≡ numbers (take (4 * m) v)
+front_numbers zero v = refl
+front_numbers (suc m) [] = four m [] refl
+front_numbers (suc m) (p ∷ []) = four m (p ∷ []) refl
+front_numbers (suc m) (p ∷ q ∷ []) = four m (p ∷ q ∷ []) refl
+front_numbers (suc m) (p ∷ q ∷ r ∷ []) = four m (p ∷ q ∷ r ∷ []) refl
+front_numbers (suc m) (p ∷ q ∷ r ∷ s ∷ v) =
+    four m (p ∷ q ∷ r ∷ s ∷ v) (ap (λ t. group_number p q r s ∷ t) (front_numbers m v))
+
+-- their bytes are the first 3 * m
+front_bytes : (m : ℕ) (ns : List ℕ) → take (3 * m) (number_bytes ns) ≡ number_bytes (take m ns)
+front_bytes zero ns = refl
+front_bytes (suc m) [] = let e : 3 * suc m ≡ suc (suc (suc (3 * m))) = omega arith in rw e refl
+front_bytes (suc m) (n ∷ ns) =
+    let e : 3 * suc m ≡ suc (suc (suc (3 * m))) = omega arith in
+    rw e (ap (λ t. n / 65536 % 256 ∷ n / 256 % 256 ∷ n % 256 ∷ t) (front_bytes m ns))
+
+-- the bytes of the numbers of a row begin with those of the groups of symbols that the row begins with
+pub row_is : (s vs ns r : List ℕ) → Each1 (Fits w8) s → vs ≡ map value_of s → ns ≡ numbers vs → take 12 r ≡
+    number_bytes ns
+    → DecodesFront s r
+row_is s vs ns r fits p q o m few all =
+    let front = front_values (take (4 * m) s) (each_take (4 * m) s fits) all in
+    let size : 3 * m ≤ 12 = omega (arith, few) in
+    sym (take-take (3 * m) 12 r size) ∙ ap (take (3 * m)) (o ∙ ap number_bytes (q ∙ ap numbers p))
+    ∙ front_bytes m (numbers (map value_of s)) ∙ ap number_bytes (front_numbers m (map value_of s))
+    ∙ ap (λ v. number_bytes (numbers v)) (take-map value_of (4 * m) s) ∙ groups_are (map value_of (take (4 * m) s))
+        front.1
+    ∙ ap groups front.0
+
+-- Blocks
+
+-- a part of 16 lanes of a block, as lanes extract it
+abbrev pub extracted : ℕ → List ℕ → List ℕ
+extracted at v = pick_l 0 (v ++ v) (range_with_len at 16)
+
+extracted_is : (v : List ℕ) (at : ℕ) → length v ≡ 64 → at + 16 ≤ 64 → T (all_below 64 (range_with_len at 16))
+    → extracted at v ≡ take 16 (drop at v)
+extracted_is v at long room below =
+    pick_l_left 0 v v 64 (range_with_len at 16) long below ∙ pick_l-range_with_len 0 v at 16 (omega (arith, long))
+
+-- the first three parts of a block, put one after another, are its first 48 bytes
+pub parts_are : (r b1 b2 b3 : List ℕ) → length r ≡ 64 → take 16 b1 ≡ extracted 0 r
+    → take (16 + 16) b2 ≡ take 16 b1 ++ extracted 16 r → take (32 + 16) b3 ≡ take 32 b2 ++ extracted 32 r → length b3
+        ≡ 48
+    → b3 ≡ take 48 r
+parts_are r b1 b2 b3 long p q s size =
+    put_three b1 b2 b3 _ _ _ p q s size
+    ∙ ap₂ (λ (x z : List ℕ). x ++ z)
+    (ap₂ (λ (x y : List ℕ). x ++ y) (extracted_is r 0 long (omega arith) tt) (extracted_is r 16 long (omega arith) tt))
+    (extracted_is r 32 long (omega arith) tt)
+    ∙ ap (λ x. x ++ take 16 (drop 32 r)) (sym (take-add 16 16 r)) ∙ sym (take-add 32 16 r)
+
+-- the bytes of the numbers of the values of symbols are those of their groups
+pub block_is : (s vs ns r : List ℕ) → list_all is_symbol s ≡ true → Each1 (Fits w8) s → vs ≡ map value_of s → ns ≡
+    numbers vs
+    → take 48 r ≡ number_bytes ns → take 48 r ≡ groups (map symbol_value s)
+block_is s vs ns r all fits p q o =
+    let f = front_values s fits all in
+    o ∙ ap number_bytes (q ∙ ap numbers p) ∙ groups_are (map value_of s) f.1 ∙ ap groups f.0

@@ -1,0 +1,14 @@
+use Rattle.std.proofs.Common.{take}
+use Rattle.std.proofs.lemmas.Simd.{dot4_Fits}
+use Rattle.data_url.specs.declared.forgiving_base64.alphabet.TheConstants.{LOWER_WEIGHTS, UPPER_WEIGHTS}
+use Rattle.data_url.proofs.forgiving_base64.Lanes.{computed_is}
+use Rattle.data_url.proofs.forgiving_base64.alphabet.numbers_of_row.Goals as goal
+
+pub dot4-upper : goal.dot4-upper
+dot4-upper c = rw c.row.ensures (dot4_Fits c.args.values (take 16 UPPER_WEIGHTS) c.fits-values.1 tt, tt)
+
+pub dot4-lower : goal.dot4-lower
+dot4-lower c = rw c.row-2.ensures (dot4_Fits c.args.values (take 16 LOWER_WEIGHTS) c.fits-values.1 tt, tt)
+
+pub returns : goal.returns
+returns c = rw (c.row.ensures, c.row-2.ensures) (computed_is 4 c.args.values c.fits-values.0 c.fits-values.1)
