@@ -44,22 +44,31 @@ bool dataurl_force_level(int wanted) {
     return true;
 }
 
+/* Asks the processor, and keeps the answer. */
 __attribute__((noinline, cold)) static int find_level(void) {
     int found = has_v3() ? 3 : 2;
     __atomic_store_n(&level, found, __ATOMIC_RELAXED);
     return found;
 }
 
+/* Most processors have level 3, so it comes first. */
 static bool is_v3(void) {
     int known = __atomic_load_n(&level, __ATOMIC_RELAXED);
-    return (known != 0 ? known : find_level()) == 3;
+    if (__builtin_expect(known == 3, true)) return true;
+    return known == 0 && find_level() == 3;
 }
+
+/* Returns the result of a call by a jump. Without it, a result in memory would be passed on by a call. */
+#define JUMP __attribute__((musttail)) return
 
 /* Defines an export, with its parameters as they are declared and as they are passed on. */
 #define FORWARD(result, name, parameters, passed) \
     result v2_##name parameters; \
     result v3_##name parameters; \
-    result name parameters { return is_v3() ? v3_##name passed : v2_##name passed; }
+    result name parameters { \
+        if (is_v3()) JUMP v3_##name passed; \
+        JUMP v2_##name passed; \
+    }
 
 #define FORWARD_TEXT(result, name) \
     FORWARD(result, name, (bytes text, size_t len, uint8_t *out, size_t room), (text, len, out, room))
