@@ -109,11 +109,12 @@
  * INVALID BASE64. The bytes before the first fault are written, with the status of the fault. data_url_fragment writes none.
  * data_url_mime and data_url_open do not decode the body and so find no fault in it.
  *
- * MEMORY AND THREADS. The library keeps no pointer and has no state of its own, so calls may run on many threads at once.
- * The calls for whole texts and data_url_open use malloc, realloc and free, and free everything before they return; the
- * three other calls use none of them. Do not call the library from a signal handler.
+ * MEMORY AND THREADS. The library keeps no pointer, and no state but which instructions the processor has. So calls may run on
+ * many threads at once. The calls for whole texts and data_url_open use malloc, realloc and free, and free everything before
+ * they return; the three other calls use none of them. Do not call the library from a signal handler.
  *
- * PLATFORMS. Linux on x86-64 (level x86-64-v2 or higher) and aarch64. C99, C++11 and later.
+ * PLATFORMS. Linux on x86-64 (level x86-64-v2 or higher) and aarch64. C99, C++11 and later. The library for x86-64 has each call
+ * for x86-64-v2 and for x86-64-v3. The first call asks the processor which of them it can run.
  *
  * The functions add one thing to calls that are proved: a pointer to no bytes may be null.
  */

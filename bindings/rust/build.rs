@@ -2,11 +2,12 @@
 //! `bindings/build` puts it, and in `../prebuilt/TARGET`. If it is in neither, it is built, which needs the Rattle kit.
 
 use std::env;
+use std::fs::read;
 use std::path::{Path, PathBuf};
 use std::process::{exit, Command, Stdio};
 
-/// The features of x86-64-v3 that x86-64-v2 does not have, as Rust names them.
-const V3: [&str; 7] = ["avx", "avx2", "bmi1", "bmi2", "f16c", "fma", "movbe"];
+/// The call by which tests choose a level. Only the library for x86-64 that has both levels has it.
+const FORCE_LEVEL: &[u8] = b"dataurl_force_level";
 
 /// Ends the build with one line.
 fn fail(why: &str) -> ! {
@@ -17,14 +18,11 @@ fn fail(why: &str) -> ! {
 /// The name of a target's archive.
 fn target() -> &'static str {
     let config = |name: &str| env::var(format!("CARGO_CFG_TARGET_{}", name)).unwrap_or_default();
-    let features = config("FEATURE");
-    let has = |name: &&str| features.split(',').any(|it| it == *name);
     match (config("ARCH").as_str(), config("OS").as_str()) {
-        ("x86_64", "linux") if V3.iter().all(has) => "x86-64-v3",
-        ("x86_64", "linux") => "x86-64-v2",
+        ("x86_64", "linux") => "x86-64",
         ("aarch64", "linux") => "aarch64",
         (arch, os) => fail(&format!(
-            "there is no libdata_url.a for {}-{}, only for x86-64-v2, x86-64-v3 and aarch64 with Linux",
+            "there is no libdata_url.a for {}-{}, only for x86-64 and aarch64 with Linux",
             arch, os
         )),
     }
@@ -74,9 +72,12 @@ fn main() {
     println!("cargo:rerun-if-env-changed=DATA_URL_LIB");
     let folder = folder();
     let archive = folder.join("libdata_url.a");
-    if !archive.exists() {
-        fail(&format!("there is no {}", archive.display()));
+    let bytes =
+        read(&archive).unwrap_or_else(|_| fail(&format!("there is no {}", archive.display())));
+    if bytes.windows(FORCE_LEVEL.len()).any(|it| it == FORCE_LEVEL) {
+        println!("cargo:rustc-cfg=data_url_chooses");
     }
+    println!("cargo:rustc-check-cfg=cfg(data_url_chooses)");
     println!("cargo:rerun-if-changed={}", archive.display());
     println!("cargo:rustc-link-search=native={}", folder.display());
     println!("cargo:rustc-env=DATA_URL_FOLDER={}", folder.display());

@@ -16,8 +16,8 @@
 //! # Platforms
 //!
 //! Linux on x86-64 with SSE4.2 and POPCNT (any processor since about 2009), and on 64-bit ARM. The library is built for these, and
-//! linked as it is; no other tool than cargo is needed. With `-C target-cpu=x86-64-v3` the library for processors with AVX2 is
-//! linked. On a processor without SSE4.2 or POPCNT the first call panics with a message that says so.
+//! linked as it is; no other tool than cargo is needed. On a processor with AVX2 (x86-64-v3) its calls use that. On one without
+//! SSE4.2 or POPCNT the first call panics with a message that says so.
 //!
 //! # What differs from the crate
 //!

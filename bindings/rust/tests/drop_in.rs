@@ -1,5 +1,7 @@
 //! Programs that were written for the crate `data-url`, unchanged.
 
+mod level;
+
 use data_url::forgiving_base64::{DecodeError, Decoder, InvalidBase64};
 use data_url::mime::{Mime, MimeParsingError};
 use data_url::{DataUrl, DataUrlError, FragmentIdentifier};

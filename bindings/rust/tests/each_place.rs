@@ -1,5 +1,7 @@
 //! Each byte at each place, each cut, and random texts, beside the rules alone, a byte at a time.
 
+mod level;
+
 use data_url::forgiving_base64::{decode_to_vec, DecodeError, Decoder};
 use data_url::DataUrl;
 use std::convert::Infallible;

@@ -1,6 +1,8 @@
 //! Tables of texts and their answers, the texts that begin another one, and inputs of every size. The expected answers follow
 //! from the standards.
 
+mod level;
+
 use data_url::forgiving_base64::{self, DecodeError, Decoder};
 use data_url::mime::Mime;
 use data_url::DataUrl;

@@ -1,6 +1,7 @@
 //! Checks every vector of the folder `vectors` over the library.
 
 mod json;
+mod level;
 
 use data_url::forgiving_base64::{self, DecodeError, Decoder, InvalidBase64};
 use data_url::mime::Mime;

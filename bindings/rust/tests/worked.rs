@@ -1,5 +1,7 @@
 //! Worked examples, with the crate's names. The expected results follow from the standards.
 
+mod level;
+
 use data_url::forgiving_base64::{self, DecodeError, Decoder};
 use data_url::mime::Mime;
 use data_url::{DataUrl, DataUrlError};

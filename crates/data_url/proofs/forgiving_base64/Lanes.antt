@@ -58,8 +58,11 @@ repeats t n long h few = record {
 
 -- each table repeats its first sixteen entries up to there
 pub repeats_row : (t : List ℕ) → 16 ≤ length t → Repeats t 16
-repeats_row t long = record { long = long; same = λ k l. let e : k ≡ k % 16 = omega (arith, l) in ap (λ k. get_or t k
-    0) e }
+repeats_row t long = record {
+  long = long;
+  same = λ k l. let e : k ≡ k % 16 = omega (arith, l) in ap (λ k. get_or t k
+      0) e;
+}
 
 -- the index of each byte in the table of offsets is below 16
 pub row_small : (x : ℕ) → x < 256 → offset_row x < 16
@@ -203,7 +206,7 @@ row_is s vs ns r fits p q o m few all =
     sym (take-take (3 * m) 12 r size) ∙ ap (take (3 * m)) (o ∙ ap number_bytes (q ∙ ap numbers p))
     ∙ front_bytes m (numbers (map value_of s)) ∙ ap number_bytes (front_numbers m (map value_of s))
     ∙ ap (λ v. number_bytes (numbers v)) (take-map value_of (4 * m) s) ∙ groups_are (map value_of (take (4 * m) s))
-        front.1
+    front.1
     ∙ ap groups front.0
 
 -- Blocks
@@ -220,7 +223,7 @@ extracted_is v at long room below =
 -- the first three parts of a block, put one after another, are its first 48 bytes
 pub parts_are : (r b1 b2 b3 : List ℕ) → length r ≡ 64 → take 16 b1 ≡ extracted 0 r
     → take (16 + 16) b2 ≡ take 16 b1 ++ extracted 16 r → take (32 + 16) b3 ≡ take 32 b2 ++ extracted 32 r → length b3
-        ≡ 48
+    ≡ 48
     → b3 ≡ take 48 r
 parts_are r b1 b2 b3 long p q s size =
     put_three b1 b2 b3 _ _ _ p q s size

@@ -17,7 +17,7 @@ returns c =
     let v = c.args.bytes in
     let long = c.fits-bytes.0 in
     let low = looked_up c.args.others.now (λ x. bit_and x 15) 16 v _ long refl (repeats_row c.args.others.now
-        c.requires) c.fits-bytes.1
+    c.requires) c.fits-bytes.1
     (zip2_splat bit_and v 16 15 long) (λ x l. omega (arith, and_le_r x 15)) in
     let high = looked_up COLUMNS (λ x. x / 16) 16 v _ long refl (repeats_row COLUMNS (omega arith)) c.fits-bytes.1
     (zip2_splat (λ a b. a / 2 ^ b) v 16 4 long) (λ x l. omega arith) in

@@ -19,6 +19,6 @@ returns c =
     let low = looked_up c.args.others.now (λ x. bit_and x 15) 64 v _ long refl c.requires c.fits-block.1
     (zip2_splat bit_and v 64 15 long) (λ x l. omega (arith, and_le_r x 15)) in
     let high = looked_up COLUMNS (λ x. x / 16) 64 v _ long refl (repeats COLUMNS 64 (omega arith) refl (omega arith))
-        c.fits-block.1
+    c.fits-block.1
     (zip2_splat (λ a b. a / 2 ^ b) v 64 4 long) (λ x l. omega arith) in
     joined bit_and _ (λ b. get_or COLUMNS (b / 16) 0) v low high

@@ -13,4 +13,4 @@ returns c =
     let v = c.args.bytes in
     joined (λ a b. (a + b) % 256) (λ x. x) (λ x. get_or OFFSETS (offset_row x) 0) v (sym (map-id v))
     (looked_up OFFSETS offset_row 64 v _ c.fits-bytes.0 refl (repeats OFFSETS 64 (omega arith) refl (omega arith))
-        c.fits-bytes.1 (offset_rows 64 v c.fits-bytes.0) row_small)
+    c.fits-bytes.1 (offset_rows 64 v c.fits-bytes.0) row_small)

@@ -13,4 +13,4 @@ returns c =
     let v = c.args.bytes in
     rw c.row.ensures (joined (λ a b. (a + b) % 256) (λ x. x) (λ x. get_or OFFSETS (offset_row x) 0) v (sym (map-id v))
     (looked_up OFFSETS offset_row 16 v _ c.fits-bytes.0 refl (repeats_row OFFSETS (omega arith)) c.fits-bytes.1
-        (offset_rows 16 v c.fits-bytes.0) row_small))
+    (offset_rows 16 v c.fits-bytes.0) row_small))
