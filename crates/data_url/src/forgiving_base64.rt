@@ -12,6 +12,7 @@ mod blocks;
 mod decode;
 mod gaps;
 mod held;
+mod left_over;
 mod whole;
 
 pub use decode::Decoder;

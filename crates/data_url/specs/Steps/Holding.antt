@@ -5,7 +5,7 @@ use Rattle.data_url.specs.Decoder.{Feeds, IsLeft, State, left_over}
 use Rattle.data_url.specs.Run.{Call, IsRun, joined_pieces, refusal}
 use Rattle.data_url.specs.declared.forgiving_base64.DecodeError.TheVariants.{WriteError}
 use Rattle.data_url.specs.declared.forgiving_base64.DecodeError.{DecodeError}
-use Rattle.data_url.specs.declared.forgiving_base64.decode.State as left
+use Rattle.data_url.specs.declared.forgiving_base64.left_over.State as left
 
 -- what a text leaves over, as the state of a decoder that has no closure and has not failed
 abbrev pub left_state : left.State → State (Unit {0})

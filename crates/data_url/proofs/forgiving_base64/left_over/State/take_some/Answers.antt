@@ -5,7 +5,7 @@ use Rattle.data_url.proofs.forgiving_base64.Holding.{gains_groups, gains_none, g
 use Rattle.data_url.proofs.forgiving_base64.Steps.{adds_group, adds_kept, adds_pad, adds_space, groups_few, kept_symbol}
 use Rattle.data_url.proofs.forgiving_base64.Steps.{more_symbols, refuses_after, refuses_other, sound, three_items}
 use Rattle.data_url.proofs.forgiving_base64.Vectors.{space_is}
-use Rattle.data_url.proofs.forgiving_base64.decode.State.take_some.Goals as goal
+use Rattle.data_url.proofs.forgiving_base64.left_over.State.take_some.Goals as goal
 
 -- no bytes have no groups, so that what is held stays if no whole groups were added
 ruleset unfilled = (arith, append-nil, groups_few, length-map)
