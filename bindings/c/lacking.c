@@ -26,7 +26,8 @@ static const struct feature features[] = {
     {7, REG_RBX, 3},  {7, REG_RBX, 5},  {7, REG_RBX, 8},  {0x80000001, REG_RCX, 5},
 };
 
-static struct feature lacking;
+/* No leaf has this number, so at first nothing is lacking. */
+static struct feature lacking = {~0u, REG_RAX, 0};
 static int asked, wrong;
 
 static bool allow_cpuid(int is_allowed) { return syscall(SYS_arch_prctl, ARCH_SET_CPUID, is_allowed) == 0; }

@@ -1,4 +1,4 @@
-//! The calls of the library, as `bindings/c/data_url.h` declares them. Everything that is unsafe is in this file.
+//! The exports of `crates/data_url_c` for Rust. Everything that is unsafe is in this file.
 
 use alloc::alloc::{handle_alloc_error, Layout};
 use alloc::borrow::ToOwned;
@@ -283,7 +283,7 @@ pub(crate) fn short_body_to_vec(tail: &str, is_base64: bool) -> (u32, Vec<u8>) {
     (answer.status, bytes)
 }
 
-/// The same, in a buffer that has room for the tail.
+/// The body of a short tail, in a buffer that has room for the tail: its status, and the bytes before a fault.
 pub(crate) fn short_body<'r, const N: usize>(
     tail: &str,
     is_base64: bool,
@@ -294,7 +294,7 @@ pub(crate) fn short_body<'r, const N: usize>(
 }
 
 impl Body {
-    /// The front of a body.
+    /// A body of which nothing was decoded.
     pub(crate) fn new(is_base64: bool) -> Body {
         Body {
             from: 0,
@@ -329,7 +329,7 @@ impl Base64 {
         }
     }
 
-    /// Feeds the front of the input: the status, the bytes, and how much was read.
+    /// Feeds as much of the input as there is room for. Returns the status, the bytes, and how much was read.
     pub(crate) fn feed<'r, const N: usize>(
         &mut self,
         input: &[u8],

@@ -21,7 +21,8 @@ fn is_plain_path(byte: u8) -> bool
     (byte >= b' ') & (byte <= b'~') & !matches!(byte, b'#' | b',' | b'?')
 }
 
-/// Returns whether the serialised text of a header has the suffix, if the end of the header tells.
+/// Returns whether the serialised text of a header has the suffix `;base64`. Returns None if the end of the header does not
+/// decide it.
 #[tactic(auto, using(crate::proofs::FlagLemmas::ends))]
 fn flag_at_end(header: &[u8]) -> Option<bool>
     ensures { IfSome result (λ flag. flag
@@ -30,6 +31,10 @@ fn flag_at_end(header: &[u8]) -> Option<bool>
     let last = header.len().checked_sub(1)?;
     if header[last] != b'4' {
         if header[last] != b' ' && is_plain_path(header[last]) {
+            return Some(false);
+        }
+        // A byte beyond ASCII is written as two digits after a `%`.
+        if header[last] >= 128 && header[last] % 16 != 4 {
             return Some(false);
         }
         return None;
@@ -52,7 +57,8 @@ fn has_scheme(text: &[u8]) -> bool
     text.len() >= SCHEME.len() && text[..SCHEME.len()].eq_ignore_ascii_case(SCHEME)
 }
 
-/// Returns whether the body of a URL is base64, if the text before its first comma begins with the scheme and its end tells.
+/// Returns whether the body of a URL is base64. Returns None if the text before its first comma does not begin with the scheme,
+/// or its end does not decide it.
 pub(crate) fn flag_of(text: &str, comma: usize) -> Option<bool>
     requires { position (λ b. b == 44) text.now ≡ Some comma }
     ensures { IfSome result (HasFlag text.now) }

@@ -19,7 +19,7 @@ use std::alloc::Global;
 /// The MIME type of a URL without a header, serialised.
 const DEFAULT_TYPE: &[u8; 27] = b"text/plain;charset=US-ASCII";
 
-/// The same in parts.
+/// The MIME type of a URL without a header, in parts.
 const DEFAULT_PARTS: &[u8; 56] = b"\x04\0\0\0\0\0\0\0text\x05\0\0\0\0\0\0\0plain\
 \x07\0\0\0\0\0\0\0charset\x08\0\0\0\0\0\0\0US-ASCII";
 

@@ -166,7 +166,8 @@ pub extern "C" fn dataurl_open_parts_utf8(
 
 /// Decodes the body of a tail, as opening a URL returns it
 /// ([Fetch Standard, section 6](https://fetch.spec.whatwg.org/#data-url-processor)), into an output that is at least as long.
-/// If its base64 is not valid, the output has the bytes before the first fault. Nothing is allocated. The tail is UTF-8, and
+/// If the output is shorter than the tail, returns status 5 and the length of the tail. If its base64 is not valid, the output
+/// has the bytes before the first fault. Nothing is allocated. The tail is UTF-8, and
 /// is not checked.
 #[unsafe(no_mangle)]
 pub extern "C" fn dataurl_tail_utf8(tail: &[u8], is_base64: bool, out: &mut [u8]) -> DataUrlStep

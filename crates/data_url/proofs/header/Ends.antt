@@ -2,7 +2,7 @@
 use Rattle.std.proofs.Common.{None, Some, ap, ◌∙◌, arith, Bool, true, false, ◌++◌, length-append, refl, sym, inl, inr}
 use Rattle.std.proofs.Common.{append_assoc, append-nil, ◌==◌, ◌≡◌, ◌≢◌, ℕ, ◌+◌, ◌-◌, ◌<◌, ◌≤◌, List, [], ◌∷◌, length}
 use Rattle.std.proofs.Common.{get_or, take, drop, map, codes, get_or-drop, eqb-true, take_all, length-drop}
-use Rattle.std.proofs.Common.{◌⊎◌, subst, take-append-drop}
+use Rattle.std.proofs.Common.{◌⊎◌, subst, take-append-drop, ◌%◌, ◌/◌, Option}
 use Rattle.std.specs.Char.{to_ascii_lowercase}
 use Rattle.std.specs.Int.{is_in_range}
 use Rattle.std.specs.Prelude.{◌&&◌, ◌||◌, not}
@@ -16,11 +16,11 @@ use Rattle.data_url.specs.Fetch.{before_base64, before_word, before_semicolon, h
 use Rattle.data_url.specs.Fetch.{stripped_header}
 use Rattle.data_url.specs.Steps.Header.{header_text}
 use Rattle.data_url.specs.Steps.Split.{is_plain_path}
-use Rattle.data_url.specs.Url.{after, before, encoded_byte, in_query_set, percent_encoding}
+use Rattle.data_url.specs.Url.{after, before, encoded_byte, hex_digit, in_query_set, percent_encoding}
 use Rattle.data_url.specs.Url.{without_end, without_start, without_tabs_and_newlines}
 use Rattle.data_url.proofs.split.Cuts.{cut_at}
 use Rattle.data_url.proofs.header.Serialising.{before_last_after, last_after, no_word, suffix_stop, word}
-use Rattle.data_url.proofs.percent.Encoding.{encoded_cons, encoded_nil, header_byte_set, header_path, header_query}
+use Rattle.data_url.proofs.percent.Encoding.{encoded_cons, encoded_nil, header_byte_set, header_nil, header_path, header_query}
 use Rattle.data_url.proofs.percent.Encoding.{Plain, kept_whole, percent_encoding-append}
 use Rattle.data_url.proofs.texts.Bytes.{after-dropped_none, after_none, before_all, dropped_keeps, dropped_nil}
 use Rattle.data_url.proofs.texts.Bytes.{without_tabs_and_newlines-append}
@@ -287,6 +287,56 @@ text_else (b ∷ s) c h ne space = elim (cases_Bool (b == 63)) [
       let first = encoded_byte (header_byte_set (before 63 t) (after 63 t)) b in
       subst EndsElse (sym (header_path b t e)) (ends_else first (header_text t) (text_else s c h ne space))
 ]
+
+-- a byte that is encoded ends with its second digit
+encoded_else : (p : ℕ → Bool) (c : ℕ) → p c ≡ true → c % 16 ≢ 4 → EndsElse (encoded_byte p c)
+encoded_else p c h four = record {
+  last = hex_digit (c % 16);
+  ends = record { front = 37 ∷ hex_digit (c / 16) ∷ []; joined = grind (arith, h) };
+  not_four = λ e. four (grind (arith, e));
+  not_space = grind arith;
+}
+
+-- a byte beyond ASCII is encoded at each place of a header
+high_encoded : (path : List ℕ) (query : Option (List ℕ)) (c : ℕ) → 128 ≤ c → header_byte_set path query c ≡ true
+high_encoded path None c high = grind (arith, high)
+high_encoded [] (Some query) c high = grind (arith, high)
+high_encoded (b ∷ path) (Some query) c high = grind (arith, high)
+
+-- the serialised text of a header ends else if its last byte is beyond ASCII, and its second digit is not 4
+text_encoded : (s : List ℕ) (c : ℕ) → 128 ≤ c → c % 16 ≢ 4 → EndsElse (header_text (s ++ c ∷ []))
+text_encoded [] c high four =
+    let set = header_byte_set (before 63 []) (after 63 []) in
+    let joined : header_text (c ∷ []) ≡ encoded_byte set c =
+    header_path c [] (grind (arith, high)) ∙ ap (λ t. encoded_byte set c ++ t) header_nil ∙ append-nil (encoded_byte set c) in
+    subst EndsElse (sym joined) (encoded_else set c (high_encoded (before 63 []) (after 63 []) c high) four)
+text_encoded (b ∷ s) c high four = elim (cases_Bool (b == 63)) [
+  | inl e ↦
+      let last : percent_encoding in_query_set (c ∷ []) ≡ encoded_byte in_query_set c =
+      encoded_cons in_query_set c [] ∙ ap (λ t. encoded_byte in_query_set c ++ t) (encoded_nil in_query_set)
+      ∙ append-nil (encoded_byte in_query_set c) in
+      let joined : header_text (b ∷ (s ++ c ∷ []))
+      ≡ (63 ∷ percent_encoding in_query_set s) ++ percent_encoding in_query_set (c ∷ []) =
+      cc (eqb-true b 63 e, header_query (s ++ c ∷ []), percent_encoding-append in_query_set s (c ∷ [])) in
+      subst EndsElse (sym joined) (ends_else (63 ∷ percent_encoding in_query_set s)
+      (percent_encoding in_query_set (c ∷ [])) (subst EndsElse (sym last) (encoded_else in_query_set c (grind (arith, high)) four)))
+  | inr e ↦
+      let t = s ++ c ∷ [] in
+      let first = encoded_byte (header_byte_set (before 63 t) (after 63 t)) b in
+      subst EndsElse (sym (header_path b t e)) (ends_else first (header_text t) (text_encoded s c high four))
+]
+
+-- a header has no base64 suffix if its last byte is beyond ASCII, and the second digit of its escape is not 4
+pub flag_encoded : (header : List ℕ) (last : ℕ) → length header ≡ last + 1 → 128 ≤ get_or header last 0
+    → get_or header last 0 % 16 ≢ 4 → false ≡ has_base64_suffix (header_text (without_tabs_and_newlines header))
+flag_encoded header last n high four =
+    let c = get_or header last 0 in
+    let s = without_tabs_and_newlines (take last header) in
+    let one : without_tabs_and_newlines (c ∷ []) ≡ c ∷ [] = grind (arith, high, dropped_keeps, dropped_nil) in
+    let cut : without_tabs_and_newlines header ≡ s ++ c ∷ [] = ap without_tabs_and_newlines (last_at header last n)
+    ∙ without_tabs_and_newlines-append (take last header) (c ∷ []) ∙ ap (λ t. s ++ t) one in
+    let e = subst (λ t. EndsElse (header_text t)) (sym cut) (text_encoded s c high four) in
+    sym (flag_absent (header_text (without_tabs_and_newlines header)) e.last e.ends e.not_four e.not_space)
 
 -- a header has no base64 suffix if its last byte is one of a path, and is neither '4' nor a space
 pub flag_false : (header : List ℕ) (last : ℕ) → length header ≡ last + 1 → get_or header last 0 ≢ 52

@@ -54,9 +54,8 @@ packed_values bytes used =
     clear (take used (place_values bytes))
     (6 * mask_l (escape_starts bytes) + mask_l (map is_tab_or_newline bytes))
 
--- of the first `size` bytes of a block, those before the first stop are packed into a buffer after `len` bytes; it
--- has `end`
--- bytes then
+-- of the first `size` bytes of a block, those before the first stop are packed into a buffer after `len` bytes; it has
+-- `end` bytes then
 pub record IsPacked (bytes : List ℕ) (size : ℕ) (room room' : List ℕ) (len used end : ℕ) : Type 0 where
   pub some : 12 ≤ used
   pub few : used ≤ size

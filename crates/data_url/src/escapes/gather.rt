@@ -20,7 +20,8 @@ use super::stops::Stop;
 pub(crate) const BUFFER_LEN: usize = 512;
 
 impl<'a> Cursor<'a> {
-    /// The next bytes: a long stretch of the text, or shorter ones and the values of escapes, gathered in a buffer while they come.
+    /// The next bytes: a long stretch of the text, or shorter ones and the values of escapes, gathered in a buffer.
+    /// Returns None at the end of the body.
     #[inline(always)]
     pub(super) fn next_bytes<'r>(&mut self, room: &'r mut [u8; BUFFER_LEN]) -> Option<&'r [u8]>
     where
@@ -49,7 +50,7 @@ impl<'a> Cursor<'a> {
         }
     }
 
-    /// Gathers the escape that is known to be at the place.
+    /// Gathers the escape that is known to be at the place. Returns how many bytes are gathered then, 0 or 1.
     #[inline(always)]
     fn gather_known(&mut self, room: &mut [u8; BUFFER_LEN]) -> usize
         requires { KnowsAhead self.old self.old.ahead }
@@ -155,7 +156,7 @@ impl<'a> Cursor<'a> {
         len
     }
 
-    /// Gathers what begins at the mark at the place.
+    /// Gathers what begins at the mark at the place. Returns how many bytes are gathered then, and whether the body ends.
     #[inline(always)]
     fn gather_stop(
         &mut self,

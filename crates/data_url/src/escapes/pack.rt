@@ -18,15 +18,15 @@ use super::stops::Block;
 use crate::packing::pack_block;
 use std::simd::prelude::*;
 
-/// With this many marks in a block, it is faster to decode its escapes in lanes than one by one.
+/// With this many marks or more in a block, it is faster to decode its escapes in lanes than one by one.
 pub(super) const SEVERAL: u32 = 4;
 
 /// With fewer bytes before the first stop of a block, or before the end of the text, escapes are decoded one by one. Four
 /// escapes have twelve bytes.
 const FEW: usize = 12;
 
-/// If at most this many bytes are left after what is packed of a block, they are read again with the next block: an escape that goes
-/// past the end of the block begins there.
+/// If at most this many bytes are left after what is packed of a block, they are read again with the next block, since an escape that
+/// goes past the end of the block may begin there.
 const SHORT_REST: usize = 2;
 
 impl<'a> Cursor<'a> {

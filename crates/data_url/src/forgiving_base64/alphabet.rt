@@ -59,7 +59,7 @@ const UPPER_WEIGHTS: [u8; 64] = [
     64, 1, 0, 0, 64, 1, 0, 0, 64, 1, 0, 0, 64, 1, 0, 0,
 ];
 
-/// The weights of the last two.
+/// The weights of the last two values of a group, in half a number.
 #[rattlefmt::skip]
 const LOWER_WEIGHTS: [u8; 64] = [
     0, 0, 64, 1, 0, 0, 64, 1, 0, 0, 64, 1, 0, 0, 64, 1,

@@ -6,8 +6,8 @@ use super::alphabet::{decode_row, group_of, is_of_symbols, is_symbol, symbols_ah
 use super::gaps::{before_partial, decode_unit, pack_rows, row_over_gap, spaces_ahead};
 use crate::classes::lanes::{last_row, put, row};
 
-/// How many bytes of groups are held before the closure is called with them: those of 64 groups. With one piece, 16
-/// groups, lines of 76 symbols take a fifth longer.
+/// How many bytes of groups are held before the closure is called with them: those of 64 groups. With 16
+/// groups, which are one piece, lines of 76 symbols take a fifth to a third longer.
 pub(crate) const FULL: usize = 192;
 
 /// The bytes of up to 64 groups, and of up to three groups of the row that was added last.
@@ -66,7 +66,8 @@ impl HeldGroups {
         self.len = end;
     }
 
-    /// Adds whole groups that a text begins with: those of rows of sixteen bytes, or one group. White space between the
+    /// Adds whole groups that a text begins with: those of rows of sixteen bytes and of what is left after them or, of a short
+    /// text, one group. White space between the
     /// symbols of a row and after its groups is skipped. Returns how many bytes of the text they take.
     #[inline(always)]
     pub(crate) fn fill(&mut self, text: &[u8]) -> usize
@@ -143,7 +144,8 @@ impl HeldGroups {
         requires last { (at ≤ length text.now) × (length text.now < at + 16) }
         requires room { self.old.len < 192 }
         ensures within { at + result ≤ length text.now }
-        ensures fills { Fills (held_bytes self.old) (take result (drop at text.now)) (held_bytes self.new) }
+        ensures fills { Fills (held_bytes self.old) (take result (drop at text.now))
+            (held_bytes self.new) }
     {
         let row = last_row(text, at + 16 - text.len());
         let groups = symbols_ahead(row) / 4;
