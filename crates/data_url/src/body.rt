@@ -2,7 +2,7 @@
 
 ghost use Rattle.std.specs.Prelude.{◌+◌, ◌≡◌, ◌≤◌, false, length, true};
 ghost use Rattle.std.specs.Fn.{CalledAt};
-ghost use Rattle.data_url.specs.Steps.Chunks.{IsCallableUntilError, IsBodyPrefix, TakesBody, TakesOn, TakesPrefix};
+ghost use Rattle.data_url.specs.Steps.Chunks.{IsCallableUntilError, IsBodyPrefix, TakesRest};
 ghost use Rattle.data_url.specs.Steps.Tail.{IsBodyEnd};
 ghost use Rattle.data_url.specs.Fetch.{outcome, plain_body};
 ghost use Rattle.data_url.specs.DataUrl.{Decodes};
@@ -11,54 +11,15 @@ ghost use Rattle.data_url.specs.Decoder.{state_of};
 use crate::escapes::{BUFFER_LEN, Pieces};
 use crate::forgiving_base64::{DecodeError, Decoder};
 
-/// Calls a closure with the prefix of a body, unless it is empty. Returns its error.
-fn take_prefix<F, E>(prefix: &[u8], take: &mut F) -> Result<(), E>
+/// Calls a closure with the rest of a body, until it returns an error. Returns this error, or the place in the text where the body
+/// ends.
+fn take_rest<F, E>(mut pieces: Pieces<'_>, take: &mut F) -> Result<usize, E>
 where
     F: FnMut(&[u8]) -> Result<(), E>,
     requires callable { IsCallableUntilError F.FnMut take.old }
-    ensures { TakesPrefix (CalledAt F.FnMut) take.old prefix.now result take.new }
+    requires short { pieces.place + length pieces.rest ≤ length pieces.text }
+    ensures { TakesRest (CalledAt F.FnMut) take.old pieces.entry result take.new }
 {
-    if prefix.is_empty() {
-        return Ok(());
-    }
-    take(prefix)
-}
-
-/// Calls a closure with the raw stretches of a body, until it returns an error. Returns this error.
-fn take_raw<F, E>(pieces: &mut Pieces<'_>, take: &mut F) -> Result<(), E>
-where
-    F: FnMut(&[u8]) -> Result<(), E>,
-    requires callable { IsCallableUntilError F.FnMut take.old }
-    requires short { pieces.old.place + length pieces.old.rest ≤ length pieces.old.text }
-    ensures { TakesOn true (CalledAt F.FnMut) take.old pieces.old result take.new pieces.new }
-{
-    'stretches: while !pieces.has_ended() {
-        let Some(stretch) = pieces.next_raw() else {
-            break 'stretches;
-        };
-        take(stretch)?;
-    }
-    Ok(())
-}
-
-/// Calls a closure with the prefix of a body and the pieces after it, until it returns an error. Returns this error, or the
-/// place in the text where the body ends. If the body is base64, the pieces up to its first escape are raw stretches.
-fn decode_pieces<F, E>(
-    prefix: &[u8],
-    mut pieces: Pieces<'_>,
-    base64: bool,
-    take: &mut F,
-) -> Result<usize, E>
-where
-    F: FnMut(&[u8]) -> Result<(), E>,
-    requires callable { IsCallableUntilError F.FnMut take.old }
-    requires prefix { IsBodyPrefix pieces.text prefix.now pieces }
-    ensures { TakesBody base64 (CalledAt F.FnMut) take.old pieces.entry.text result take.new }
-{
-    take_prefix(prefix, take)?;
-    if base64 {
-        take_raw(&mut pieces, take)?;
-    }
     if pieces.has_ended() {
         return Ok(pieces.end());
     }
@@ -72,12 +33,11 @@ where
     Ok(pieces.end())
 }
 
-/// Calls a closure with a body, decoded if it is base64, from its prefix and the pieces after it. Returns the place in the
-/// text where the body ends.
-pub(crate) fn decode_body<F, E>(
+/// Calls a closure with a body that is not base64, from its prefix and the pieces after it. Returns the place in the text where
+/// the body ends.
+pub(crate) fn decode_plain<F, E>(
     prefix: &[u8],
     pieces: Pieces<'_>,
-    base64: bool,
     mut write: F,
 ) -> (Result<usize, DecodeError<E>>, F)
 where
@@ -85,18 +45,39 @@ where
     requires callable { F.IsAlwaysCallable write }
     requires prefix { IsBodyPrefix pieces.text prefix.now pieces }
     ensures { Decodes (CalledAt F.FnMut) write (length pieces.entry.text + 1)
-        (outcome base64 (plain_body pieces.entry.text)) (IsBodyEnd pieces.entry.text) result.0 result.1 }
+        (outcome false (plain_body pieces.entry.text)) (IsBodyEnd pieces.entry.text) result.0 result.1 }
 {
-    if !base64 {
-        let place = decode_pieces(prefix, pieces, base64, &mut write);
-        return (place.map_err(DecodeError::WriteError), write);
+    if !prefix.is_empty() {
+        if let Err(error) = write(prefix) {
+            return (Err(DecodeError::WriteError(error)), write);
+        }
     }
+    let place = take_rest(pieces, &mut write);
+    (place.map_err(DecodeError::WriteError), write)
+}
+
+/// Calls a closure with the decoded bytes of a body of base64, from the text after the comma. Returns the place in the text
+/// where the body ends.
+///
+/// The text before its first `%` and `#` is decoded where it is, with its tabs and newlines. What is left is the rest of a body.
+pub(crate) fn decode_base64<F, E>(tail: &str, write: F) -> (Result<usize, DecodeError<E>>, F)
+where
+    F: FnMut(&[u8]) -> Result<(), E>,
+    requires callable { F.IsAlwaysCallable write }
+    ensures { Decodes (CalledAt F.FnMut) write (length tail.entry.now + 1)
+        (outcome true (plain_body tail.entry.now)) (IsBodyEnd tail.entry.now) result.0 result.1 }
+{
     let mut decoder = Decoder::new(write);
+    let place = match decoder.feed_unescaped(tail.as_bytes()) {
+        Ok(place) => place,
+        Err(error) => return (Err(error), decoder.into_closure()),
+    };
+    let pieces = Pieces::after(tail, place);
     let mut feed = |bytes: &[u8]| -> Result<(), DecodeError<E>>
         requires callable { F.IsAlwaysCallable (state_of decoder).closure }
         requires going { (state_of decoder).failed ≡ false }
     { decoder.feed(bytes) };
-    match decode_pieces(prefix, pieces, base64, &mut feed) {
+    match take_rest(pieces, &mut feed) {
         Ok(place) => {
             let (ended, write) = decoder.finish_with();
             (ended.map(|()| place), write)

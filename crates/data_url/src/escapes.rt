@@ -1,11 +1,11 @@
 //! The body of a data: URL in pieces: slices of the input, and the values of escapes (URL Standard, section 1.3,
 //! percent-decode). Nothing is allocated.
 
-ghost use Rattle.std.specs.Prelude.{◌≡◌, ◌+◌, ◌*◌, ◌≤◌, ◌++◌, [], IfNone, IfSome, IsTrue, None, length};
+ghost use Rattle.std.specs.Prelude.{◌≡◌, ◌+◌, ◌*◌, ◌≤◌, ◌++◌, [], IfNone, IfSome, IsTrue, None, drop, length};
 ghost use Rattle.std.specs.Option.{option_map};
 ghost use Rattle.data_url.specs.Pieces.{IsPiece, walk_at_start, bytes_of_next};
 ghost use Rattle.data_url.specs.Url.{after, number_sign};
-ghost use Rattle.data_url.specs.Steps.Chunks.{GivesBytes, GivesRaw, IsBodyPrefix};
+ghost use Rattle.data_url.specs.Steps.Chunks.{GivesBytes, IsBodyFrom, IsBodyPrefix};
 ghost use Rattle.data_url.specs.Steps.Tail.{IsBodyEnd};
 
 mod cursor;
@@ -14,7 +14,6 @@ mod gather;
 mod lanes;
 mod looks;
 mod pack;
-mod raw;
 mod source;
 mod stops;
 
@@ -76,6 +75,17 @@ impl<'a> Pieces<'a> {
         (prefix, Pieces { cursor })
     }
 
+    /// Returns the pieces after a place. There is no `#` before it.
+    pub(crate) fn after(text: &'a str, place: usize) -> Self
+        requires within { place ≤ length text.now }
+        requires no_hash { after number_sign (drop place text.now) ≡ after number_sign text.now }
+        ensures { IsBodyFrom text.entry.now place result }
+    {
+        Pieces {
+            cursor: Cursor::after(text, place),
+        }
+    }
+
     /// Returns the next piece of the body. Returns None if the body has ended, and from then on.
     ///
     /// The pieces before None join to the text before its first `#`, without tabs and newlines, percent-decoded
@@ -119,17 +129,6 @@ impl<'a> Pieces<'a> {
         let bytes = cursor.next_bytes(room);
         self.cursor = cursor;
         bytes
-    }
-
-    /// Returns the next raw stretch of a body, or None at an escape and at the end of the body. The walk is moved out and back,
-    /// so that it can stay in registers.
-    pub(crate) fn next_raw(&mut self) -> Option<&'a [u8]>
-        ensures { GivesRaw self.old result self.new }
-    {
-        let mut cursor = replace(&mut self.cursor, Cursor::new(""));
-        let stretch = cursor.next_raw();
-        self.cursor = cursor;
-        stretch
     }
 
     /// Returns whether the walk is known to be at the end of the body.

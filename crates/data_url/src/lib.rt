@@ -21,7 +21,7 @@ mod percent;
 mod split;
 
 use ascii::trim;
-use body::decode_body;
+use body::{decode_base64, decode_plain};
 use escapes::{Pieces, fragment_at};
 use forgiving_base64::{DecodeError, DecodeToVecError, room_for};
 pub use fragment::FragmentIdentifier;
@@ -151,8 +151,12 @@ impl<'a> DataUrl<'a> {
         ensures { Decodes (CalledAt F.FnMut) write_body_bytes (length (url_tail self.now) + 1)
             (url_body self.now) (IsFragmentOf (url_tail self.now)) result.0 result.1 }
     {
-        let (prefix, pieces) = Pieces::after_prefix(self.tail);
-        let (answer, write) = decode_body(prefix, pieces, self.base64, write_body_bytes);
+        let (answer, write) = if self.base64 {
+            decode_base64(self.tail, write_body_bytes)
+        } else {
+            let (prefix, pieces) = Pieces::after_prefix(self.tail);
+            decode_plain(prefix, pieces, write_body_bytes)
+        };
         match answer {
             Ok(place) => (
                 Ok(fragment_at(self.tail, place).map(FragmentIdentifier::new)),
@@ -208,12 +212,12 @@ impl<'a> DataUrl<'a> {
         let Ok(mut bytes) = Vec::with_capacity(alloc, self.room(prefix.len())) else {
             return Err(DecodeToVecError::OutOfMemory);
         };
-        let ended = decode_body(
-            prefix,
-            pieces,
-            self.base64,
-            |piece: &[u8]| -> Result<(), AllocError> { bytes.extend_from_slice(piece) },
-        );
+        let extend = |piece: &[u8]| -> Result<(), AllocError> { bytes.extend_from_slice(piece) };
+        let ended = if self.base64 {
+            decode_base64(self.tail, extend)
+        } else {
+            decode_plain(prefix, pieces, extend)
+        };
         match ended.0 {
             Ok(place) => Ok((
                 bytes,

@@ -2,188 +2,99 @@
 use Rattle.std.proofs.Common.{IsErr, Result, Ok, Err, refl, sym, ap, ◌∙◌, append_assoc, arith, length-append, Bool}
 use Rattle.std.{proofs.Common.{MatchBool}, proofs.lemmas.List.{length-map}}
 use Rattle.std.proofs.Common.{Some, false, cond, min, length-drop, length-take, MatchOption, MatchResult}
-use Rattle.std.proofs.Common.{true, append-nil, ◌<◌, ◌≡◌, ℕ, ◌+◌, ◌≤◌, List, [], ◌∷◌, ◌++◌, Bor, length, Option, None}
+use Rattle.std.proofs.Common.{true, append-nil, ◌≡◌, ℕ, ◌+◌, ◌≤◌, List, [], ◌∷◌, ◌++◌, Bor, length, Option, None}
 use Rattle.std.{specs.Fn.{CalledAt, Mut, always_mut}, specs.Option.{option_or}, specs.Result.{result_err}}
-use Rattle.std.proofs.lemmas.List.Elements.{filter-append}
 use Rattle.data_url.specs.Base64.{decoded, complete_bytes, kind_of, after_groups, groups, rest_bytes, values}
 use Rattle.data_url.specs.Base64.{without_whitespace}
 use Rattle.data_url.proofs.forgiving_base64.Padding.{decoded_alike, done_alike, kind_alike, valid_alike}
 use Rattle.data_url.specs.{DataUrl.{Decodes, HandsOut, IsUrlOf, url_body, url_tail}, Steps.Tail.{IsBodyEnd}}
 use Rattle.data_url.specs.{Decoder.{Feeds, Finishes, State, start}, Run.{Call, IsRun, joined_pieces, refusal, IsPrefix}}
 use Rattle.data_url.specs.{Errors.{IsRefused}, Fetch.{Good, outcome_bytes, plain_body, Bad, outcome, Outcome, tail_of}}
-use Rattle.data_url.specs.{Pieces.{Walk, walk_at_start}, declared.DataUrl.{DataUrl}}
-use Rattle.data_url.specs.Steps.Chunks.{IsAlike, IsBodyOf, IsBodyPrefix, IsCallableUntilError, Takes, TakesBody}
-use Rattle.data_url.specs.Steps.Chunks.{TakesOn}
+use Rattle.data_url.specs.{Pieces.{Walk}, declared.DataUrl.{DataUrl}}
+use Rattle.data_url.specs.Steps.Chunks.{IsBodyFrom, IsBodyPrefix, IsCallableUntilError, Takes, TakesOn, TakesRest}
+use Rattle.data_url.specs.Steps.{Holding.{ReadsFront, RefusesFront}, Window.{is_plain}}
+use Rattle.data_url.specs.Url.{is_tab_or_newline, number_sign}
+use Rattle.std.{proofs.lemmas.Bool.{and_parts, cases_Bool}, specs.Char.{is_ascii_whitespace}, specs.List.{list_all}}
+use Rattle.std.proofs.Common.{drop, take, inl, inr, ◌==◌, not, length-take-le, take-append-drop}
+use Rattle.data_url.proofs.escapes.{EscapeDigits.{begins_other, cleaned_keeps, cleaned_passes}, Reading.{decoded_byte, plain_is}}
+use Rattle.data_url.proofs.{forgiving_base64.Holding.{reads_feeds}, texts.Bytes.{after_other}}
+use Rattle.data_url.specs.Steps.Digits.{cleaned}
 use Rattle.data_url.specs.{Steps.Whole.{DecodesText}, declared.forgiving_base64.DecodeError.{DecodeError}}
 use Rattle.data_url.specs.Url.{after, trimmed_text}
 use Rattle.data_url.specs.declared.forgiving_base64.DecodeError.TheVariants.{WriteError, InvalidBase64}
 use Rattle.data_url.proofs.forgiving_base64.Groups.{groups_length, filter_length}
 use Rattle.data_url.proofs.forgiving_base64.Steps.{feeds_err, feeds_then}
-use Rattle.data_url.proofs.forgiving_base64.WholeTexts.{decodes_finished, decodes_refused, fed_nothing, run_keeps}
+use Rattle.data_url.proofs.forgiving_base64.WholeTexts.{decodes_finished, decodes_refused, run_keeps}
 use Rattle.data_url.proofs.{forgiving_base64.WholeTexts.{run_reads}, runs.Runs.{run-append}, texts.Bytes.{is_cut}}
 use Rattle.data_url.proofs.runs.Runs.{prefix_after, joined_pieces-append, match_at, match_at_none, refusal-append}
 use denote.Param.Always.{mut_next}
 pub use Rattle.data_url.proofs.escapes.Reading.{body_shorter}
 
--- equal texts are alike
-alike_same : (spaced : Bool) (x y : List ℕ) → x ≡ y → IsAlike spaced x y
-alike_same false x y e = e
-alike_same true x y e = ap without_whitespace e
-
--- bytes that are taken as they are can also be said to be taken but for white space
-pub takes_weaker : (spaced : Bool) {w w' : Walk} {bytes : List ℕ} → Takes false w bytes w' → Takes spaced w bytes w'
-takes_weaker spaced t = record {
-  text_stays = t.text_stays;
-  rest_is = alike_same spaced _ _ t.rest_is;
-  place = t.place;
-  within = t.within;
-  some = t.some;
-  short = t.short;
-}
-
--- the prefix of a body is what the walk takes first, if it is not empty
-pub takes_prefix : (spaced : Bool) {text bytes : List ℕ} {w : Walk} → IsBodyPrefix text bytes w → 0 < length bytes
-    → Takes spaced (walk_at_start text) bytes w
-takes_prefix spaced i some = record {
-  text_stays = i.text_is;
-  rest_is = alike_same spaced _ _ i.body_is;
-  place = omega (arith, i.few);
-  within = omega (arith, i.within, ap length i.text_is);
-  some = some;
-  short = omega (arith, i.short, ap length i.text_is);
-}
-
--- texts that are alike, one after other, are alike
-alike_more : (spaced : Bool) (all a b rest rest' : List ℕ) → IsAlike spaced all (a ++ rest)
-    → IsAlike spaced rest (b ++ rest') → IsAlike spaced all ((a ++ b) ++ rest')
-unfolding without_whitespace
-alike_more false all a b rest rest' h k = cc (append_assoc a b rest')
-alike_more true all a b rest rest' h k = grind (arith, filter-append, append_assoc)
-
--- an option, or else `None`, is the option
-or_none : {A : Type 0} (o : Option A) → option_or o None ≡ o
-or_none None = refl
-or_none (Some x) = refl
-
 module _ {F E : Type 0} (step : F → List ℕ → Result (Unit {0}) E → F → Type 0) where
-  -- the closure was called with the bytes that the walk takes
-  pub takes_on_call : (spaced : Bool) {f g : F} {bytes : List ℕ} {w w' : Walk} (answer : Result (Unit {0}) E)
-      → Takes spaced w bytes w' → step f bytes answer g → TakesOn spaced step f w answer g w'
-  takes_on_call spaced {g = g} {bytes = bytes} answer t s = record {
-    run = record { piece = bytes; answer = answer; after = g } ∷ [];
-    ran = (s, λ e. refl, refl);
-    answered = or_none (result_err answer);
-    text_stays = t.text_stays;
-    calls = omega (arith, t.place, t.some);
-    few = omega (arith, t.place, ap length (append-nil bytes));
-    within = t.within;
-    short = t.short;
-    body = rw (append-nil bytes) t.rest_is;
-  }
-
-  -- the closure was called with what the walk takes before a place, and then with what it takes after it
-  pub takes_on_then : (spaced : Bool) {f g h : F} {w0 w w' : Walk} {answer : Result (Unit {0}) E}
-      → TakesOn spaced step f w0 (Ok tt) g w → TakesOn spaced step g w answer h w'
-      → TakesOn spaced step f w0 answer h w'
-  takes_on_then spaced {f} {g} {h} {w0} {w} {w'} a b =
-      let joined = joined_pieces-append a.run b.run in
+  -- the closure was called with the next bytes of the walk
+  pub takes_on_call : {f g h : F} {bytes : List ℕ} {w0 w w' : Walk} → TakesOn step f w0 g w → Takes w bytes w'
+      → step g bytes (Ok tt) h → TakesOn step f w0 h w'
+  takes_on_call {f} {g} {h} {bytes} {w0} {w} {w'} a t s =
+      let call = record { piece = bytes; answer = Ok tt; after = h } ∷ [] in
       record {
-        run = a.run ++ b.run;
-        ran = run-append step a.run b.run f g h a.ran a.answered b.ran;
-        answered = refusal-append a.run b.run a.answered ∙ b.answered;
-        text_stays = b.text_stays ∙ a.text_stays;
-        calls = omega (arith, a.calls, b.calls, length-append a.run b.run);
-        few = omega (
-          arith,
-          a.few,
-          b.few,
-          ap length joined,
-          length-append (joined_pieces a.run) (joined_pieces b.run),
+        run = a.run ++ call;
+        ran = run-append step a.run call f g h a.ran a.accepted (s, λ e. refl, refl);
+        accepted = refusal-append a.run call a.accepted;
+        text_stays = t.text_stays ∙ a.text_stays;
+        calls = omega (arith, a.calls, t.place, t.some, length-append a.run call);
+        within = t.within;
+        short = t.short;
+        body = cc (
+          a.body,
+          t.rest_is,
+          joined_pieces-append a.run call,
+          append-nil bytes,
+          append_assoc (joined_pieces a.run) bytes w'.rest,
         );
-        within = b.within;
-        short = b.short;
-        body = rw joined (alike_more spaced w0.rest (joined_pieces a.run) (joined_pieces b.run) w.rest w'.rest a.body
-            b.body);
+      }
+
+  -- the closure returned an error for the next bytes of the walk
+  pub rest_refused : {f g h : F} {bytes : List ℕ} {w0 w w' : Walk} {e : E} → TakesOn step f w0 g w → Takes w bytes w'
+      → step g bytes (Err e) h → TakesRest step f w0 (Err e) h
+  rest_refused {f} {g} {h} {bytes} {w0} {w} {w'} {e} a t s =
+      let call = record { piece = bytes; answer = Err e; after = h } ∷ [] in
+      record {
+        run = a.run ++ call;
+        ran = run-append step a.run call f g h a.ran a.accepted (s, λ e. refl, refl);
+        calls = omega (
+          arith,
+          a.calls,
+          t.place,
+          t.some,
+          t.within,
+          length-append a.run call,
+          ap length a.text_stays,
+          ap length t.text_stays,
+        );
+        gave = (
+          refusal-append a.run call a.accepted,
+          (
+            w'.rest,
+            cc (
+              a.body,
+              t.rest_is,
+              joined_pieces-append a.run call,
+              append-nil bytes,
+              append_assoc (joined_pieces a.run) bytes w'.rest,
+            ),
+          ),
+        );
       }
 
   -- at the end of the body, the closure was called with the whole of it
-  pub took_all : (spaced : Bool) {f g : F} {text : List ℕ} {w : Walk} {place : ℕ}
-      → TakesOn spaced step f (walk_at_start text) (Ok tt) g w → w.rest ≡ [] → IsBodyEnd w.text place
-      → TakesBody spaced step f text (Ok place) g
-  took_all spaced {f} {g} {text} {w} {place} k over end =
-      let whole : joined_pieces k.run ++ w.rest ≡ joined_pieces k.run = cc (append-nil (joined_pieces k.run)) in
-      let body = rw whole at k.body in
-      let long = ap length k.text_stays in grind arith
-
-  -- if the closure returned an error, it took the body up to that error
-  pub took_refused : (spaced : Bool) {f g : F} {text : List ℕ} {w : Walk} {e : E}
-      → TakesOn spaced step f (walk_at_start text) (Err e) g w → TakesBody spaced step f text (Err e) g
-  took_refused spaced {f} {g} {text} {w} {e} k =
-      let long = ap length k.text_stays in
-      record {
-        run = k.run;
-        ran = k.ran;
-        calls = omega (arith, k.calls, k.within);
-        gave = (
-          k.answered,
-          w.rest,
-          record {
-            few = omega (arith, k.few, k.short, length-append (joined_pieces k.run) w.rest);
-            alike = k.body;
-          },
-        );
-      }
-
--- after calls that return no error, the closure can still be called until it returns an error
-pub callable_on : {F E : Type 0} (closure : Mut F (Bor (List ℕ) × Unit {0}) (Result (Unit {0}) E)) {spaced : Bool}
-    {f g : F} {w w' : Walk} → IsCallableUntilError closure f → TakesOn spaced (CalledAt closure) f w (Ok tt) g w'
-    → IsCallableUntilError closure g
-callable_on closure {f = f} {g = g} can t = λ run h ran n bytes. can (t.run ++ run) h
-    (run-append (CalledAt closure) t.run run f g h t.ran t.answered ran) (refusal-append t.run run t.answered ∙ n) bytes
-
--- the result, with the place as its value if it is `Ok`
-abbrev at_place : {E : Type 0} → ℕ → Result (Unit {0}) (DecodeError E) → Result ℕ (DecodeError E)
-at_place place (Ok x) = Ok place
-at_place place (Err e) = Err e
-
--- if q is `Ok place` where p is `Ok`, and otherwise has the error of p, then q is p with the place in it
-mapped : {E : Type 0} (place : ℕ) (p : Result (Unit {0}) (DecodeError E)) (q : Result ℕ (DecodeError E))
-    → MatchResult p (λ x. q ≡ Ok place) (λ e. q ≡ Err e) → at_place place p ≡ q
-mapped place (Ok x) q m = sym m
-mapped place (Err e) q m = sym m
-
--- texts that are equal without white space have the same outcome, if they are base64
-outcome_alike : (x y : List ℕ) → without_whitespace x ≡ without_whitespace y → outcome true x ≡ outcome true y
-unfolding outcome
-outcome_alike x y e = cc (valid_alike x y e, decoded_alike x y e, done_alike x y e, kind_alike x y e)
-
-module _ {F E : Type 0} (step : F → List ℕ → Result (Unit {0}) E → F → Type 0) where
-  -- a text that was decoded as a whole, or refused by the closure, gives a good body if it is valid, or a bad one
-  gives : (u bytes : List ℕ) (place : ℕ) (good : ℕ → Type 0) (r : Result (Unit {0}) (DecodeError E)) (o : Option E)
-      (v : Bool) → (r ≡ Ok tt → good place)
-      → MatchOption o (MatchBool v ((bytes ≡ decoded u) × (r ≡ Ok tt)) ((bytes ≡ complete_bytes u)
-      × (r ≡ Err (InvalidBase64 (kind_of u))))) (λ e. IsRefused (cond v (decoded u) (complete_bytes u)) bytes e r)
-      → MatchOption o (HandsOut (cond v (Good (decoded u)) (Bad (complete_bytes u) (kind_of u))) good bytes
-      (at_place place r)) (λ e. IsRefused
-      (outcome_bytes (cond v (Good (decoded u)) (Bad (complete_bytes u) (kind_of u)))) bytes e (at_place place r))
-  gives u bytes place good r None true g h = grind arith
-  gives u bytes place good r None false g h = grind arith
-  gives u bytes place good r (Some e) true g h = grind arith
-  gives u bytes place good r (Some e) false g h = grind arith
-
-  -- the outcome of a text
-  outcome_whole : {f g : F} {text u : List ℕ} (place : ℕ) (r : Result (Unit {0}) (DecodeError E))
-      → length u ≤ length text → DecodesText step f u r g → (r ≡ Ok tt → IsBodyEnd text place)
-      → Decodes step f (length text + 1) (outcome true u) (IsBodyEnd text) (at_place place r) g
-  unfolding outcome
-  outcome_whole {f} {g} {text} {u} place r few d b = grind arith
-
-  -- the outcome of the whole body
-  outcome_of : {f g : F} {text u : List ℕ} (place : ℕ) (r : Result (Unit {0}) (DecodeError E)) → IsBodyOf true text u
-      → DecodesText step f u r g → (r ≡ Ok tt → IsBodyEnd text place)
-      → Decodes step f (length text + 1) (outcome true (plain_body text)) (IsBodyEnd text) (at_place place r) g
-  outcome_of {f} {g} {text} {u} place r e d b =
-      rw (outcome_alike (plain_body text) u e.alike) (outcome_whole place r e.few d b)
+  pub rest_taken : {f g : F} {w0 w : Walk} {place : ℕ} → TakesOn step f w0 g w → w.rest ≡ [] → IsBodyEnd w.text place
+      → TakesRest step f w0 (Ok place) g
+  rest_taken {f} {g} {w0} {w} {place} a over end = record {
+    run = a.run;
+    ran = a.ran;
+    calls = omega (arith, a.calls, a.within, ap length a.text_stays);
+    gave = (rw a.text_stays at end, a.accepted, cc (a.body, over, append-nil (joined_pieces a.run)));
+  }
 
 module _ {F E : Type 0} (step : F → List ℕ → Result (Unit {0}) E → F → Type 0)
     (kept : List ℕ → F → Type 0) (stopped : List ℕ → E → F → Type 0)
@@ -236,6 +147,13 @@ pub run_preserves : {F E : Type 0} (step : F → List ℕ → Result (Unit {0}) 
     → (cs : List (Call F E)) (f g : F) → IsRun step f cs g → refusal cs ≡ None → K f → K g
 run_preserves step K keeps cs f g ran n k = run_kept step cs f g ran n (λ bytes. K) (λ bytes. keeps) k
 
+-- what each call that succeeds preserves is true after a closure took the rest of a body
+pub rest_preserves : {F E : Type 0} {step : F → List ℕ → Result (Unit {0}) E → F → Type 0} {f g : F} {w : Walk}
+    {r : Result ℕ E} {place : ℕ} → TakesRest step f w r g → r ≡ Ok place → (K : F → Type 0)
+    → ((p : F) (piece : List ℕ) (q : F) → K p → step p piece (Ok tt) q → K q) → K f → K g
+rest_preserves {step = step} {f = f} {g = g} took e K keeps k =
+    let t = rw e at took in run_preserves step K keeps t.run f g t.ran t.gave.1 k
+
 -- a closure that can always be called can be called until it returns an error
 pub until_error : {F E : Type 0} (closure : Mut F (Bor (List ℕ) × Unit {0}) (Result (Unit {0}) E)) (f : F)
     → always_mut closure f → IsCallableUntilError closure f
@@ -244,77 +162,223 @@ until_error closure f h run g ran n bytes =
     (λ p piece q i s. mut_next closure p (s.shown, tt) (Ok tt) q q s.called refl i) run f g ran n h in
     (k.at ((bytes, tt) ∷ [])).0
 
--- what each call that succeeds preserves is true after a closure took a whole body
-pub took_preserves : (spaced : Bool) {F E : Type 0} {step : F → List ℕ → Result (Unit {0}) E → F → Type 0} {f g : F}
-    {text : List ℕ} {r : Result ℕ E} {place : ℕ} → TakesBody spaced step f text r g → r ≡ Ok place → (K : F → Type 0)
-    → ((p : F) (piece : List ℕ) (q : F) → K p → step p piece (Ok tt) q → K q) → K f → K g
-took_preserves spaced {step = step} {f = f} {g = g} took e K keeps k =
-    let t = rw e at took in run_preserves step K keeps t.run f g t.ran t.gave.1 k
+-- after a call that returns no error, the closure can still be called until it returns an error
+pub callable_on : {F E : Type 0} (closure : Mut F (Bor (List ℕ) × Unit {0}) (Result (Unit {0}) E)) {f g : F}
+    {bytes : List ℕ} → IsCallableUntilError closure f → CalledAt closure f bytes (Ok tt) g
+    → IsCallableUntilError closure g
+callable_on closure {f} {g} {bytes} can s = λ run h ran n more.
+    can (record { piece = bytes; answer = Ok tt; after = g } ∷ run) h (s, λ e. absurd (cc), ran) n more
 
--- a closure that took a body decodes it, if it is not base64
-pub plain_taken : {F E : Type 0} (step : F → List ℕ → Result (Unit {0}) E → F → Type 0) {f g : F} {text : List ℕ}
-    {flag : Bool} {r : Result ℕ E} {r' : Result ℕ (DecodeError E)} → flag ≡ false → TakesBody flag step f text r g
-    → MatchResult r (λ place. r' ≡ Ok place) (λ e. r' ≡ Err (WriteError e))
-    → Decodes step f (length text + 1) (outcome flag (plain_body text)) (IsBodyEnd text) r' g
+-- A body that is not base64
+
+module _ {F E : Type 0} (step : F → List ℕ → Result (Unit {0}) E → F → Type 0) where
+  -- the closure returned an error for the prefix of a body
+  pub prefix_refused : {f g : F} {text bytes : List ℕ} {w : Walk} {e : E} → IsBodyPrefix text bytes w
+      → step f bytes (Err e) g
+      → Decodes step f (length text + 1) (outcome false (plain_body text)) (IsBodyEnd text) (Err (WriteError e)) g
+  unfolding outcome
+  prefix_refused {g = g} {bytes = bytes} {w = w} {e = e} i s = record {
+    run = record { piece = bytes; answer = Err e; after = g } ∷ [];
+    ran = (s, λ e. refl, refl);
+    calls = omega arith;
+    gave = record { bytes_begin = (w.rest, cc (i.body_is, append-nil bytes)); answer = refl };
+  }
+
+  -- the closure was called with the prefix of a body, by at most one call, and then with the rest
+  pub prefix_then : {f g h : F} {text bytes : List ℕ} {w : Walk} {r : Result ℕ E} {r' : Result ℕ (DecodeError E)}
+      (first : List (Call F E)) → IsBodyPrefix text bytes w → length first ≤ 1 → IsRun step f first g
+      → refusal first ≡ None → joined_pieces first ≡ bytes → TakesRest step g w r h
+      → MatchResult r (λ place. r' ≡ Ok place) (λ e. r' ≡ Err (WriteError e))
+      → Decodes step f (length text + 1) (outcome false (plain_body text)) (IsBodyEnd text) r' h
+  unfolding outcome
+  prefix_then {f} {g} {h} {text} {bytes} {w} {r = Ok place} {r'} first i one ran none is t m = record {
+    run = first ++ t.run;
+    ran = run-append step first t.run f g h ran none t.ran;
+    calls = omega (arith, one, t.calls, length-append first t.run, ap length i.text_is);
+    gave = match_at None _ _ _ (refusal-append first t.run none ∙ t.gave.1) (record {
+      bytes_are = cc (joined_pieces-append first t.run, is, i.body_is, t.gave.2);
+      answer = rw m (rw i.text_is at t.gave.0);
+    });
+  }
+  prefix_then {f} {g} {h} {text} {bytes} {w} {r = Err e} {r'} first i one ran none is t m =
+      let p = prefix_after bytes (joined_pieces t.run) w.rest t.gave.1 in
+      record {
+        run = first ++ t.run;
+        ran = run-append step first t.run f g h ran none t.ran;
+        calls = omega (arith, one, t.calls, length-append first t.run, ap length i.text_is);
+        gave = match_at (Some e) _ _ _ (refusal-append first t.run none ∙ t.gave.0) (record {
+          bytes_begin = (p.0, cc (joined_pieces-append first t.run, is, i.body_is, p.1));
+          answer = m;
+        });
+      }
+
+-- A body of base64
+
+-- texts that are equal without white space are so after a byte
+alike_cons : (c : ℕ) (x y : List ℕ) → without_whitespace x ≡ without_whitespace y
+    → without_whitespace (c ∷ x) ≡ without_whitespace (c ∷ y)
+unfolding without_whitespace
+alike_cons c x y e = ap (λ s. cond (not (is_ascii_whitespace c)) (c ∷ s) s) e
+
+-- a tab or a newline is white space
+space_gone : (c : ℕ) (x : List ℕ) → is_tab_or_newline c ≡ true → without_whitespace x ≡ without_whitespace (c ∷ x)
+unfolding without_whitespace
+space_gone c x t = grind arith
+
+-- a byte that is neither '#' nor '%' is read as it is, unless it is a tab or a newline
+plain_one : (c : ℕ) (s : List ℕ) → is_plain c ≡ true
+    → (without_whitespace (plain_body (c ∷ s)) ≡ without_whitespace (c ∷ plain_body s))
+    × (after number_sign (c ∷ s) ≡ after number_sign s)
+plain_one c s h =
+    let no : (c == 35) ≡ false = grind arith in
+    let other : (c == 37) ≡ false = grind arith in
+    let same : without_whitespace (plain_body (c ∷ s)) ≡ without_whitespace (c ∷ plain_body s) =
+    elim (cases_Bool (is_tab_or_newline c)) [
+      | inl t ↦ ap without_whitespace (cc (plain_is (c ∷ s), cleaned_passes c s t, plain_is s))
+          ∙ space_gone c (plain_body s) t
+      | inr t ↦
+          let kept = cleaned_keeps c s t no in
+          let read = decoded_byte c (cleaned s) (begins_other c (cleaned s) other) in
+          ap without_whitespace (cc (plain_is (c ∷ s), kept, read, plain_is s))
+    ] in
+    (same, after_other 35 c s no)
+
+-- text without '#' and '%' is read as it is, but for tabs and newlines
+plain_front : (a b : List ℕ) → list_all is_plain a ≡ true
+    → (without_whitespace (plain_body (a ++ b)) ≡ without_whitespace (a ++ plain_body b))
+    × (after number_sign (a ++ b) ≡ after number_sign b)
+plain_front [] b h = (refl, refl)
+plain_front (c ∷ a) b h =
+    let k = and_parts (is_plain c) (list_all is_plain a) h in
+    let more = plain_front a b k.1 in
+    let one = plain_one c (a ++ b) k.0 in
+    let same = alike_cons c (plain_body (a ++ b)) (a ++ plain_body b) more.0 in
+    (one.0 ∙ same, one.1 ∙ more.1)
+
+-- the fragment of a tail comes after its front
+pub front_fragment : (tail : List ℕ) (at : ℕ) → list_all is_plain (take at tail) ≡ true
+    → after number_sign (drop at tail) ≡ after number_sign tail
+front_fragment tail at plain =
+    cc ((plain_front (take at tail) (drop at tail) plain).1, take-append-drop at tail)
+
+-- the bytes are the body of the tail, but for white space
+record IsBodyOf (tail bytes : List ℕ) : Type 0 where
+  few : length bytes ≤ length tail
+  alike : without_whitespace (plain_body tail) ≡ without_whitespace bytes
+
+-- the front of a tail as it is, and then the body from there on
+front_body : (tail : List ℕ) (at : ℕ) → at ≤ length tail → list_all is_plain (take at tail) ≡ true
+    → IsBodyOf tail (take at tail ++ plain_body (drop at tail))
+front_body tail at within plain =
+    let front = plain_front (take at tail) (drop at tail) plain in
+    record {
+      few = omega (
+        arith,
+        within,
+        body_shorter (drop at tail),
+        length-append (take at tail) (plain_body (drop at tail)),
+        length-take-le at tail within,
+        length-drop at tail,
+      );
+      alike = ap (λ t. without_whitespace (plain_body t)) (sym (take-append-drop at tail)) ∙ front.0;
+    }
+
+-- the result, with the place as its value if it is `Ok`
+abbrev at_place : {E : Type 0} → ℕ → Result (Unit {0}) (DecodeError E) → Result ℕ (DecodeError E)
+at_place place (Ok x) = Ok place
+at_place place (Err e) = Err e
+
+-- if q is `Ok place` where p is `Ok`, and otherwise has the error of p, then q is p with the place in it
+mapped : {E : Type 0} (place : ℕ) (p : Result (Unit {0}) (DecodeError E)) (q : Result ℕ (DecodeError E))
+    → MatchResult p (λ x. q ≡ Ok place) (λ e. q ≡ Err e) → at_place place p ≡ q
+mapped place (Ok x) q m = sym m
+mapped place (Err e) q m = sym m
+
+-- texts that are equal without white space have the same outcome, if they are base64
+outcome_alike : (x y : List ℕ) → without_whitespace x ≡ without_whitespace y → outcome true x ≡ outcome true y
 unfolding outcome
-plain_taken step {f} {g} {text} {flag} {r = Ok place} {r'} b t m =
-    let t = rw b at t in
-    rw b (record {
-      run = t.run;
-      ran = t.ran;
-      calls = omega (arith, t.calls);
-      gave = match_at None (refusal t.run) _ _ t.gave.1 (record {
-        bytes_are = sym t.gave.2.alike;
-        answer = rw m
-            t.gave.0;
-      });
-    })
-plain_taken step {f} {g} {text} {flag} {r = Err e} {r'} b t m =
-    let t = rw b at t in
-    rw b (record {
-      run = t.run;
-      ran = t.ran;
-      calls = omega (arith, t.calls);
-      gave = match_at (Some e) (refusal t.run) _ _ t.gave.0
-          (record { bytes_begin = (t.gave.1, t.gave.2.alike); answer = m });
-    })
+outcome_alike x y e = cc (valid_alike x y e, decoded_alike x y e, done_alike x y e, kind_alike x y e)
+
+module _ {F E : Type 0} (step : F → List ℕ → Result (Unit {0}) E → F → Type 0) where
+  -- a text that was decoded as a whole, or refused by the closure, gives a good body if it is valid, or a bad one
+  gives : (u bytes : List ℕ) (place : ℕ) (good : ℕ → Type 0) (r : Result (Unit {0}) (DecodeError E)) (o : Option E)
+      (v : Bool) → (r ≡ Ok tt → good place)
+      → MatchOption o (MatchBool v ((bytes ≡ decoded u) × (r ≡ Ok tt)) ((bytes ≡ complete_bytes u)
+      × (r ≡ Err (InvalidBase64 (kind_of u))))) (λ e. IsRefused (cond v (decoded u) (complete_bytes u)) bytes e r)
+      → MatchOption o (HandsOut (cond v (Good (decoded u)) (Bad (complete_bytes u) (kind_of u))) good bytes
+      (at_place place r)) (λ e. IsRefused
+      (outcome_bytes (cond v (Good (decoded u)) (Bad (complete_bytes u) (kind_of u)))) bytes e (at_place place r))
+  gives u bytes place good r None true g h = grind arith
+  gives u bytes place good r None false g h = grind arith
+  gives u bytes place good r (Some e) true g h = grind arith
+  gives u bytes place good r (Some e) false g h = grind arith
+
+  -- the outcome of a text
+  outcome_whole : {f g : F} {text u : List ℕ} (place : ℕ) (r : Result (Unit {0}) (DecodeError E))
+      → length u ≤ length text → DecodesText step f u r g → (r ≡ Ok tt → IsBodyEnd text place)
+      → Decodes step f (length text + 1) (outcome true u) (IsBodyEnd text) (at_place place r) g
+  unfolding outcome
+  outcome_whole {f} {g} {text} {u} place r few d b = grind arith
+
+  -- the outcome of a body, from a text that is the same but for white space
+  outcome_of : {f g : F} {text u : List ℕ} (place : ℕ) (r : Result (Unit {0}) (DecodeError E)) → IsBodyOf text u
+      → DecodesText step f u r g → (r ≡ Ok tt → IsBodyEnd text place)
+      → Decodes step f (length text + 1) (outcome true (plain_body text)) (IsBodyEnd text) (at_place place r) g
+  outcome_of {f} {g} {text} {u} place r e d b =
+      rw (outcome_alike (plain_body text) u e.alike) (outcome_whole place r e.few d b)
+
+  -- the front of a tail has a fault, or the closure returned an error
+  pub front_refused : {f : F} {d d' : State F} {tail : List ℕ} {x : DecodeError E} → d ≡ start f
+      → RefusesFront step d tail x d'
+      → Decodes step f (length tail + 1) (outcome true (plain_body tail)) (IsBodyEnd tail) (Err x) d'.closure
+  front_refused {tail = tail} {x = x} e h =
+      let fed = feeds_err step (plain_body (drop h.at tail)) (rw e at h.feeds) in
+      outcome_of 0 (Err x) (front_body tail h.at h.within h.plain) (decodes_refused step refl fed) (λ e. absurd (cc))
 
 module _ {C F E : Type 0} {outer : C → List ℕ → Result (Unit {0}) (DecodeError E) → C → Type 0}
     (step : F → List ℕ → Result (Unit {0}) E → F → Type 0) (state : C → State F)
     (feeds : (p : C) (piece : List ℕ) (r : Result (Unit {0}) (DecodeError E)) (q : C) → outer p piece r q
     → Feeds step (state p) piece r (state q)) where
-  -- a run of calls, each of which feeds the decoder its piece, feeds the decoder all the pieces, joined
-  fed : {f : F} (c c' : C) (run : List (Call C (DecodeError E))) → state c ≡ start f → IsRun outer c run c'
-      → MatchOption (refusal run) (Feeds step (start f) (joined_pieces run) (Ok tt) (state c'))
-      (λ e. Feeds step (start f) (joined_pieces run) (Err e) (state c'))
-  fed {f} c c' run s ran =
-      run_ends outer run c c' ran (λ bytes q. Feeds step (start f) bytes (Ok tt) (state q))
-      (λ bytes e q. Feeds step (start f) bytes (Err e) (state q))
-      (λ bytes p piece q k o. feeds_then step k (feeds p piece (Ok tt) q o))
-      (λ bytes p piece e q k o. feeds_then step k (feeds p piece (Err e) q o)) (fed_nothing step s)
+  -- a run of calls, each of which feeds the decoder its piece, feeds the decoder all the pieces, joined, after a text
+  fed : {f : F} (text : List ℕ) (c c' : C) (run : List (Call C (DecodeError E)))
+      → Feeds step (start f) text (Ok tt) (state c) → IsRun outer c run c'
+      → MatchOption (refusal run) (Feeds step (start f) (text ++ joined_pieces run) (Ok tt) (state c'))
+      (λ e. Feeds step (start f) (text ++ joined_pieces run) (Err e) (state c'))
+  fed {f} text c c' run s ran =
+      run_ends outer run c c' ran (λ bytes q. Feeds step (start f) (text ++ bytes) (Ok tt) (state q))
+      (λ bytes e q. Feeds step (start f) (text ++ bytes) (Err e) (state q))
+      (λ bytes p piece q k o. rw (append_assoc text bytes piece) at (feeds_then step k (feeds p piece (Ok tt) q o)))
+      (λ bytes p piece e q k o. rw (append_assoc text bytes piece) at (feeds_then step k (feeds p piece (Err e) q o)))
+      (rw (append-nil text) s)
 
-  -- if a closure that feeds a new decoder takes a body up to an error, this is the result of decoding it as base64
-  pub fed_refused : {f : F} {c c' : C} {text : List ℕ} {flag : Bool} {r : Result ℕ (DecodeError E)} {x : DecodeError E}
-      → flag ≡ true → state c ≡ start f → TakesBody flag outer c text r c' → r ≡ Err x
-      → Decodes step f (length text + 1) (outcome flag (plain_body text)) (IsBodyEnd text) (Err x) (state c').closure
-  fed_refused {f} {c} {c'} {text} {flag} {r} {x} b s took e =
-      let t = rw (b, e) at took in
-      let k = match_at (refusal t.run) (Some x) _ _ (sym t.gave.0) (fed c c' t.run s t.ran) in
-      let d = decodes_refused step refl (feeds_err step t.gave.1 k) in
-      rw b (outcome_of step 0 (Err x) t.gave.2 d (λ e. absurd (cc)))
+  -- after the front of a tail, a closure that feeds the decoder takes the rest of the body up to an error
+  pub fed_refused : {f : F} {c c' : C} {d : State F} {tail : List ℕ} {place : ℕ} {w : Walk}
+      {r : Result ℕ (DecodeError E)} {x : DecodeError E} → d ≡ start f → ReadsFront step d tail place (state c)
+      → IsBodyFrom tail place w → TakesRest outer c w r c' → r ≡ Err x
+      → Decodes step f (length tail + 1) (outcome true (plain_body tail)) (IsBodyEnd tail) (Err x) (state c').closure
+  fed_refused {f} {c} {c'} {d} {tail} {place} {w} {r} {x} s front from took e =
+      let t = rw e at took in
+      let k = match_at (refusal t.run) (Some x) _ _ (sym t.gave.0)
+      (fed (take place tail) c c' t.run (reads_feeds step (rw s at front.reads)) t.ran) in
+      let whole : (take place tail ++ joined_pieces t.run) ++ t.gave.1.0 ≡ take place tail ++ plain_body (drop place tail)
+      = cc (from.rest_is, t.gave.1.1, append_assoc (take place tail) (joined_pieces t.run) t.gave.1.0) in
+      outcome_of step 0 (Err x) (front_body tail place front.within front.plain)
+      (decodes_refused step refl (rw whole at (feeds_err step t.gave.1.0 k))) (λ e. absurd (cc))
 
-  -- if a closure that feeds a new decoder takes a whole body, and then the decoder is finished, this is the result of
-  -- decoding the body as base64
-  pub fed_ended : {f g : F} {c c' : C} {text : List ℕ} {flag : Bool} {r : Result ℕ (DecodeError E)} {place : ℕ}
-      {p : Result (Unit {0}) (DecodeError E)} {q : Result ℕ (DecodeError E)} → flag ≡ true → state c ≡ start f
-      → TakesBody flag outer c text r c' → r ≡ Ok place → Finishes step (state c') p g
-      → MatchResult p (λ x. q ≡ Ok place) (λ e. q ≡ Err e)
-      → Decodes step f (length text + 1) (outcome flag (plain_body text)) (IsBodyEnd text) q g
-  fed_ended {f} {g} {c} {c'} {text} {flag} {r} {place} {p} {q} b s took e ended m =
-      let t = rw (b, e) at took in
-      let k = match_at (refusal t.run) None _ _ (sym t.gave.1) (fed c c' t.run s t.ran) in
-      let d = decodes_finished step refl k ended in
-      rw (b, sym (mapped place p q m)) (outcome_of step place p t.gave.2 d (λ _. t.gave.0))
+  -- then it takes the whole body, and the decoder is finished
+  pub fed_ended : {f g : F} {c c' : C} {d : State F} {tail : List ℕ} {place end : ℕ} {w : Walk}
+      {r : Result ℕ (DecodeError E)} {p : Result (Unit {0}) (DecodeError E)} {q : Result ℕ (DecodeError E)}
+      → d ≡ start f → ReadsFront step d tail place (state c) → IsBodyFrom tail place w → TakesRest outer c w r c'
+      → r ≡ Ok end → Finishes step (state c') p g → MatchResult p (λ x. q ≡ Ok end) (λ e. q ≡ Err e)
+      → Decodes step f (length tail + 1) (outcome true (plain_body tail)) (IsBodyEnd tail) q g
+  fed_ended {f} {g} {c} {c'} {d} {tail} {place} {end} {w} {r} {p} {q} s front from took e ended m =
+      let t = rw e at took in
+      let k = match_at (refusal t.run) None _ _ (sym t.gave.1)
+      (fed (take place tail) c c' t.run (reads_feeds step (rw s at front.reads)) t.ran) in
+      let whole : take place tail ++ joined_pieces t.run ≡ take place tail ++ plain_body (drop place tail) =
+      cc (from.rest_is, t.gave.2) in
+      rw (sym (mapped end p q m)) (outcome_of step end p (front_body tail place front.within front.plain)
+      (decodes_finished step refl (rw whole at k) ended) (λ _. rw from.text_is at t.gave.0))
 
 -- if each call that succeeds extends a measure by its piece, a run without an error extends it by all its bytes
 pub run_extends : {F E : Type 0} (step : F → List ℕ → Result (Unit {0}) E → F → Type 0) (cs : List (Call F E)) (f g : F)

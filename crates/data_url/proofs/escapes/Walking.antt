@@ -6,17 +6,9 @@ use Rattle.std.{proofs.Common.{take-add, slice_range, IfNone}, proofs.lemmas.Str
 use Rattle.std.proofs.lemmas.List.{drop_more, drop_all, take_more_set, append_cancel_right}
 use Rattle.data_url.specs.{Fetch.{plain_body}, Steps.Digits.{EscapeAt, cleaned}, declared.escapes.Piece.{Piece}}
 use Rattle.data_url.specs.Pieces.{Walk, text_of, IsStretch, bytes_of, has_ended, is_slice_end, walk_of}
-use Rattle.std.proofs.Common.{false, map, not, suc, zero, ◌==◌}
-use Rattle.std.specs.{List.{list_all}, Simd.Lanes.{mask_l}}
-use Rattle.std.proofs.lemmas.Bool.{and_parts, cases_Bool}
-use Rattle.data_url.specs.Steps.Window.{is_marked, is_plain}
-use Rattle.data_url.specs.Url.{is_tab_or_newline}
 use Rattle.data_url.proofs.escapes.EscapeDigits.{begins_other, cleaned_keeps}
 use Rattle.data_url.proofs.escapes.Reading.{spells_byte, spells_passed}
-use Rattle.std.specs.Char.{is_ascii_whitespace}
-use Rattle.data_url.specs.Base64.{without_whitespace}
-use Rattle.std.proofs.lemmas.List.Elements.{filter-append}
-use Rattle.data_url.specs.Steps.Chunks.{IsBodyPrefix, IsOver, Spans, Takes}
+use Rattle.data_url.specs.Steps.Chunks.{IsBodyPrefix, IsOver, Takes}
 use Rattle.data_url.proofs.escapes.Reading.{body_shorter}
 use Rattle.data_url.specs.Steps.Tail.{BeginsFragment, IsBodyEnd, rest_fragment}
 use Rattle.data_url.specs.Steps.Walk.{Ended, EndsAt, Gathers, GoesOn, IsClear, IsNextMark, IsPart, Knows, KnowsAhead}
@@ -263,13 +255,13 @@ few_looks {c} k = (known_cases c c.ahead k.ahead_is).1
 
 -- if some bytes were gathered, the walk returns these
 pub takes_gathered : {c c' : Cursor} {room0 room : List ℕ} {len : ℕ} → Gathers c c' room0 room 0 len → 0 < len
-    → Takes false (walk_of c) (take len room) (walk_of c')
+    → Takes (walk_of c) (take len room) (walk_of c')
 takes_gathered {c} {c'} {room0} {room} {len} g l =
     let short = short_rest (text_of c') c'.place (grind arith) in grind arith
 
 -- if nothing was gathered, and then came a piece, the walk returns the bytes of the piece
 pub takes_next : {c c1 c2 : Cursor} {room0 room : List ℕ} {len : ℕ} (p : Piece) → Gathers c c1 room0 room 0 len
-    → len ≡ 0 → GoesOn c1 (Some p) c2 → Takes false (walk_of c) (bytes_of p) (walk_of c2)
+    → len ≡ 0 → GoesOn c1 (Some p) c2 → Takes (walk_of c) (bytes_of p) (walk_of c2)
 takes_next {c} {c1} {c2} {room0} {room} {len} p g e h =
     let short = short_rest (text_of c2) c2.place (grind arith) in grind (arith, piece_some)
 
@@ -277,153 +269,6 @@ takes_next {c} {c1} {c2} {room0} {room} {len} p g e h =
 pub over_next : {c c1 c2 : Cursor} {room0 room : List ℕ} {len : ℕ} → Gathers c c1 room0 room 0 len → len ≡ 0
     → GoesOn c1 None c2 → Knows c2 → IsOver (walk_of c) (walk_of c2)
 over_next {c} {c1} {c2} g e h k = grind (arith, rest_over)
-
--- Stretches with tabs and newlines in them. For `next_raw`.
-
--- tabs and newlines are white space, so a text without white space has none
-spaces_gone : (s : List ℕ) → without_whitespace (without_tabs_and_newlines s) ≡ without_whitespace s
-unfolding without_whitespace without_tabs_and_newlines
-spaces_gone [] = refl
-spaces_gone (b ∷ s) = grind (arith, spaces_gone s)
-
--- nothing is between an index and itself
-pub spans_none : (text : List ℕ) (place : ℕ) → place ≤ length text → Spans text place place
-spans_none text place l = grind arith
-
--- what is spelled as it is read is the text between two indices, but for tabs and newlines
-pub spans_spelled : {text raw : List ℕ} {from to : ℕ} → Spells text from to raw raw → Spans text from to
-unfolding without_whitespace
-spans_spelled {text} {raw} {from} {to} s =
-    let few = s.reads.few in
-    let x = slice_range text from to in
-    let rest = plain_body (drop to text) in
-    let p = λ (c : ℕ). not (is_ascii_whitespace c) in
-    let gone : without_whitespace raw ≡ without_whitespace x =
-    ap without_whitespace (sym (spelled s)) ∙ spaces_gone x in
-    record {
-      forward = omega arith;
-      within = s.reads.within;
-      body = cc (s.reads.body, filter-append p raw rest, filter-append p x rest);
-      after_is = s.reads.after_is;
-    }
-
--- two ranges, one after the other
-pub spans_then : {text : List ℕ} {from middle to : ℕ} → Spans text from middle → Spans text middle to
-    → Spans text from to
-unfolding without_whitespace
-spans_then {text} {from} {middle} {to} a b =
-    let x = slice_range text from middle in
-    let y = slice_range text middle to in
-    let rest = plain_body (drop to text) in
-    let p = λ (c : ℕ). not (is_ascii_whitespace c) in
-    record {
-      forward = omega (arith, a.forward, b.forward);
-      within = b.within;
-      body = cc (
-        a.body,
-        b.body,
-        filter-append p x (plain_body (drop middle text)),
-        filter-append p x (y ++ rest),
-        append_assoc x y rest,
-        slice_join text from middle to a.forward b.forward,
-      );
-      after_is = a.after_is ∙ b.after_is;
-    }
-
--- a byte that is neither '#' nor '%'
-spans_byte : (text : List ℕ) (place : ℕ) → place < length text → is_plain (get_or text place 0) ≡ true
-    → Spans text place (place + 1)
-spans_byte text place l h =
-    let e = drop_more text place 0 l in
-    elim (cases_Bool (is_tab_or_newline (get_or text place 0))) [
-      | inl t ↦ spans_spelled (spells_passed text place l t)
-      | inr t ↦
-          let no : (get_or text place 0 == 35) ≡ false = grind arith in
-          let other : (get_or text place 0 == 37) ≡ false = grind arith in
-          spans_spelled (spells_byte text place l t no (grind (arith, cleaned_keeps, begins_other)))
-    ]
-
--- n such bytes
-pub spans_plain : (text : List ℕ) (from n : ℕ) → from + n ≤ length text
-    → list_all is_plain (take n (drop from text)) ≡ true → Spans text from (from + n)
-spans_plain text from zero l h = grind (arith, spans_none)
-spans_plain text from (suc n) l h =
-    let e = drop_more text from 0 (omega arith) in
-    let k = and_parts (is_plain (get_or text from 0)) (list_all is_plain (take n (drop (from + 1) text))) (rw e at h) in
-    let first = spans_byte text from (omega arith) k.0 in
-    let more = spans_plain text (from + 1) n (omega arith) k.1 in
-    grind (arith, spans_then first more)
-
--- the walk can go on after a block that it skips
-pub looking_skipped : {s s' : Source} {b : Block} {place : ℕ} → Looking s b place 0 → b.seen ≤ place
-    → place + 64 ≤ length s.text.now → s'.text.now ≡ s.text.now → s'.looks ≡ s.looks + 64
-    → Looking s' (record { base = place + 64; seen = place + 64; marks = 0 }) (place + 64) 0
-looking_skipped {s} {s'} {b} {place} k seen within t l =
-    let end = place + 64 in
-    let zero_is : end - end ≡ zero = omega arith in
-    let none : take (end - end) (drop end s'.text.now) ≡ [] = ap (λ n. take n (drop end s'.text.now)) zero_is in
-    let long : end ≤ length s'.text.now = rw t within in
-    let pays = paid_on s.text.now place end (omega arith) in
-    record {
-      block = record {
-        base_le = omega arith;
-        seen_le = long;
-        short = omega arith;
-        marks_are = ap (λ x. mask_l (map is_marked x)) (sym none);
-      };
-      base_le = omega arith;
-      within = long;
-      looks_are_paid = rw t (omega (arith, k.looks_are_paid));
-    }
-
--- the walk can go on in a block that was read
-pub looking_read : {s s' : Source} {b : Block} {place marks : ℕ} (bytes : List ℕ) → Looking s b place 0
-    → b.seen ≤ place → place + 64 ≤ length s.text.now → s'.text.now ≡ s.text.now → s'.looks ≡ s.looks + 64
-    → bytes ≡ take 64 (drop place s.text.now) → marks ≡ mask_l (map is_marked bytes)
-    → Looking s' (record { base = place; seen = place + 64; marks = marks }) place 0
-looking_read {s} {s'} {b} {place} {marks} bytes k seen within t l e m =
-    let size : place + 64 - place ≡ 64 = omega arith in
-    let all : slice_range s'.text.now place (place + 64) ≡ bytes =
-    ap (λ n. take n (drop place s'.text.now)) size ∙ ap (λ (x : List ℕ). take 64 (drop place x)) t ∙ sym e in
-    let long : place + 64 ≤ length s'.text.now = rw t within in
-    record {
-      block = record {
-        base_le = omega arith;
-        seen_le = long;
-        short = omega arith;
-        marks_are = m ∙ ap (λ x. mask_l (map is_marked x)) (sym all);
-      };
-      base_le = omega arith;
-      within = omega arith;
-      looks_are_paid = rw t (omega (arith, k.looks_are_paid));
-    }
-
--- what is true of the source after two steps
-pub looks_then : {s0 s s1 : Source} → LooksOn s0 s → LooksOn s s1 → LooksOn s0 s1
-looks_then {s0} {s} {s1} a b =
-    record { text_stays = b.text_stays ∙ a.text_stays; looks_grow = omega (arith, a.looks_grow, b.looks_grow) }
-
--- a range goes on after one that was found before
-pub spans_on : {s0 s : Source} {from middle to : ℕ} → LooksOn s0 s → Spans s0.text.now from middle
-    → Spans s.text.now middle to → Spans s0.text.now from to
-spans_on a k l = spans_then k (rw a.text_stays at l)
-
--- a raw stretch is taken with the white space in it
-pub takes_raw : (c c' : Cursor) {bytes : List ℕ} → Spans (text_of c) c.place c'.place → text_of c' ≡ text_of c
-    → bytes ≡ slice_range (text_of c) c.place c'.place → c.place < c'.place
-    → Takes true (walk_of c) bytes (walk_of c')
-takes_raw c c' {bytes} a t e l =
-    let size =
-    length-take-le (c'.place - c.place) (drop c.place (text_of c)) (omega (arith, a.within, length-drop {A = ℕ})) in
-    let long = ap length e ∙ size in
-    record {
-      text_stays = t;
-      rest_is = rw (t, e) a.body;
-      place = omega (arith, a.forward);
-      within = omega (arith, ap length t, a.within);
-      some = omega arith;
-      short = rw t (short_rest (text_of c) c'.place a.within);
-    }
 
 -- the lemmas for pieces
 pub ruleset stretches = (looking_escape, looking_paid, byte_part, byte_next, goes_part, slice_part, searched)

@@ -1,22 +1,22 @@
 -- Feeding while decoded bytes are held. For the functions of `Decoder` that feed.
 use Rattle.std.proofs.Common.{Option, None, Some, is_some, Result, Ok, Err, refl, ap, sym, ◌∙◌, subst, arith}
 use Rattle.std.proofs.Common.{append_assoc, drop-drop, length-append, length-take, take-append-drop, append-nil}
-use Rattle.std.proofs.Common.{false, cond, min, ◌||◌, List, [], ◌∷◌, ◌++◌, length, map, drop, get_or, take, take-add}
+use Rattle.std.proofs.Common.{false, cond, min, ◌&&◌, ◌||◌, List, [], ◌∷◌, ◌++◌, length, map, drop, get_or, take, take-add}
 use Rattle.std.{proofs.Common.{get_or-drop, length-drop, MatchResult}, specs.Option.{option_or}}
-use Rattle.std.proofs.Common.{◌≡◌, ℕ, ◌+◌, ◌-◌, ◌/◌, ◌<◌, ◌≤◌, length-take-le, Bool, true}
-use Rattle.std.{proofs.lemmas.Bool.{and_parts, true≢false}, specs.List.{filter, list_all}, specs.Result.{result_err}}
-use Rattle.std.proofs.lemmas.List.{nil_from_length, take_more, take_rest}
+use Rattle.std.proofs.Common.{eqb, eqb-true, inl, inr, slice_index, ◌≡◌, ℕ, ◌+◌, ◌-◌, ◌/◌, ◌<◌, ◌≤◌, length-take-le, Bool, true}
+use Rattle.std.{proofs.lemmas.Bool.{and_parts, cases_Bool, true≢false}, specs.List.{filter, list_all}, specs.Result.{result_err}}
+use Rattle.std.proofs.lemmas.{List.{nil_from_length, take_more, take_rest}, List.Folds.{list_all-append, list_all_more}}
 use Rattle.data_url.specs.Base64.{Kind, after_groups, first_fault, groups, is_symbol, left_padding, left_symbols}
 use Rattle.data_url.specs.{Base64.{symbol_value}, Decoder.{Feeds, IsLeft, State, left_over}, Run.{IsRun, joined_pieces}}
 use Rattle.data_url.specs.{Mime.{Every}, declared.forgiving_base64.held.HeldGroups.{HeldGroups}}
-use Rattle.data_url.specs.Steps.Groups.{Fills, IsWhole, held_bytes, is_symbol_or_space}
-use Rattle.data_url.specs.Steps.Holding.{Adds, CallsOnce, Flushes, Gains, IsBetweenGroups, Reads, Refuses}
+use Rattle.data_url.specs.Steps.{Groups.{Fills, IsWhole, held_bytes, is_symbol_or_space}, Window.{is_plain}}
+use Rattle.data_url.specs.Steps.Holding.{Adds, CallsOnce, EndsWithin, Gains, IsBetweenGroups, Reads, ReadsTo, Refuses}
 use Rattle.data_url.specs.declared.forgiving_base64.DecodeError.{DecodeError}
 use Rattle.data_url.specs.declared.forgiving_base64.DecodeError.TheVariants.{InvalidBase64, WriteError}
 use Rattle.data_url.proofs.forgiving_base64.Groups.{symbols_alone}
-use Rattle.data_url.proofs.forgiving_base64.Padding.{every_list_all, fault-append, fault_byte, filter_all, is_pad}
-use Rattle.data_url.proofs.forgiving_base64.Padding.{length-after_groups}
-use Rattle.data_url.proofs.forgiving_base64.Steps.{IsSound, adds_none, adds_text, fault_space, fault_symbol, feeds_stop}
+use Rattle.data_url.proofs.forgiving_base64.Padding.{every_list_all, fault-append, fault_byte, fault_none, filter_all, is_pad}
+use Rattle.data_url.proofs.forgiving_base64.Padding.{is_bad, length-after_groups, passed}
+use Rattle.data_url.proofs.forgiving_base64.Steps.{IsSound, adds_none, adds_text, fault_space, fault_symbol}
 use Rattle.data_url.proofs.forgiving_base64.Steps.{feeds_then, has_pad, left_goes_on, one_call, told_call}
 use Rattle.data_url.proofs.runs.Runs.{joined_pieces-append, match_at, match_none, refusal-append, run-append}
 
@@ -45,6 +45,35 @@ allowed_pads [] h = refl
 allowed_pads (c ∷ t) h =
     let p = and_parts (is_symbol_or_space c) (list_all is_symbol_or_space t) h in
     ap (λ s. cond s (c ∷ filter is_pad t) (filter is_pad t)) (one_allowed c p.0).1 ∙ allowed_pads t p.1
+
+-- a byte that is no fault is neither '#' nor '%'
+unmarked : (seen : Bool) (c : ℕ) → is_bad seen c ≡ false → is_plain c ≡ true
+unmarked seen c h = elim (cases_Bool (eqb c 35)) [
+  | inl e ↦ absurd (true≢false (rw (eqb-true c 35 e) at h))
+  | inr e ↦ elim (cases_Bool (eqb c 37)) [
+    | inl f ↦ absurd (true≢false (rw (eqb-true c 37 f) at h))
+    | inr f ↦ cc (e, f)
+  ]
+]
+
+-- a text without a fault has no '#' and no '%'
+plain_byte : (t : List ℕ) (seen : Bool) → fault_byte seen t ≡ None → list_all is_plain t ≡ true
+unfolding fault_byte
+plain_byte [] seen h = refl
+plain_byte (c ∷ t) seen h =
+    let k = passed (is_bad seen c) c (fault_byte (seen || is_pad c) t) h in
+    ap (λ x. x && list_all is_plain t) (unmarked seen c k.0) ∙ plain_byte t (seen || is_pad c) k.1
+
+-- if the text after u has no fault, it has no '#' and no '%'
+pub plain_after : (u t : List ℕ) → first_fault (u ++ t) ≡ None → list_all is_plain t ≡ true
+plain_after u t h =
+    let all = sym (list_all-append is_plain u t) ∙ plain_byte (u ++ t) false (fault_none (u ++ t) h) in
+    (and_parts (list_all is_plain u) (list_all is_plain t) all).1
+
+-- one more byte that is neither '#' nor '%'
+pub plain_more : (t : List ℕ) (at : ℕ) → at < length t → list_all is_plain (take at t) ≡ true
+    → is_plain (get_or t at 0) ≡ true → list_all is_plain (take (at + 1) t) ≡ true
+plain_more t at l h k = list_all_more is_plain t at 0 l ∙ ap (λ x. x && is_plain (get_or t at 0)) h ∙ k
 
 -- Text that is read without a call
 
@@ -139,9 +168,9 @@ held_cut s b at end h =
 
 module _ {F E : Type 0} (step : F → List ℕ → Result (Unit {0}) E → F → Type 0) where
   -- if c is a fault and completes no group, feeding c returns its error without a call, and d has failed
-  refuses_feeds : {d d' : State F} {d1 d2 : State (Unit {0})} {c : ℕ} {kind : Kind} → left_over d ≡ left_over d1
-      → Refuses d1 c kind d2 → d' ≡ record d { failed = true } → Feeds step d (c ∷ []) (Err (InvalidBase64 kind)) d'
-  refuses_feeds {d} {d'} {d1} {d2} {c} e f same = grind arith
+  refuses_feeds : {d d' : State F} {c : ℕ} {kind : Kind} → Refuses d c kind d → d' ≡ record d { failed = true }
+      → Feeds step d (c ∷ []) (Err (InvalidBase64 kind)) d'
+  refuses_feeds {d} {d'} {c} f same = grind arith
 
   -- what is left over stays if the symbols and the padding do
   left_stays : {d d' : State F} {u : List ℕ} → IsLeft u d → d'.symbols ≡ d.symbols → d'.padding ≡ d.padding
@@ -262,27 +291,45 @@ module _ {F E : Type 0} (step : F → List ℕ → Result (Unit {0}) E → F →
     });
   }
 
-  -- passing all bytes that are held to the closure ends the feeding
-  pub reads_flushed : {d d1 d2 : State F} {t : List ℕ} (held : List ℕ) (r : Result (Unit {0}) (DecodeError E))
-      → Reads step d t held d1 → Flushes step d1 held r d2 → Feeds step d t r d2
-  reads_flushed {d} {t = t} held (Ok u) h f = reads_feeds (f d t [] (rw (append-nil held) h))
-  reads_flushed {d} {t = t} held (Err e) h f = f d t [] (rw (append-nil held) h)
+  -- what is said of a decoder after a byte is said of each one that has the same left over
+  refuses_alike : {G H : Type 0} {d1 d2 : State G} {d : State H} {c : ℕ} {kind : Kind} → left_over d ≡ left_over d1
+      → Refuses d1 c kind d2 → Refuses d c kind d
+  refuses_alike e f = grind arith
 
-  -- if the byte at an index is a fault, feeding s returns its error after the bytes before it
-  pub reads_fault : {d d3 d4 : State F} {g : F} {failed : Bool} {d1 d2 : State (Unit {0})} {held : List ℕ} {kind : Kind}
-      (s : List ℕ) (at c : ℕ) → at < length s → c ≡ get_or s at 0
-      → Reads step d (take at s) held (with_closure g failed d1) → Refuses d1 c kind d2 → Reads step d (take at s) [] d3
-      → d4 ≡ record d3 { failed = true } → Feeds step d s (Err (InvalidBase64 kind)) d4
-  reads_fault {d} {d3} {d4} {d1 = d1} {kind = kind} s at c inside is before f after same =
-      let P : List ℕ → Type 0 = λ t. Feeds step d t (Err (InvalidBase64 kind)) d4 in
-      let more : take at s ++ c ∷ [] ≡ take (at + 1) s = cc (take_more s at 0 inside) in
+  -- the text before a fault is read
+  pub reads_to : {d d3 : State F} {g : F} {failed : Bool} {d1 d2 : State (Unit {0})} {held : List ℕ} {kind : Kind}
+      (s : List ℕ) (at : ℕ) → at < length s → Reads step d (take at s) held (with_closure g failed d1)
+      → Reads step d (take at s) [] d3 → Refuses d1 (slice_index (take (length s - at) (drop at s)) 0) kind d2
+      → ReadsTo step d s at (Some kind) d3
+  reads_to {d} {d3} {d1 = d1} {kind = kind} s at inside before after is =
       let left : left_over d3 ≡ left_over d1 = cc (
         before.left.symbols_are,
         before.left.padding_is,
         after.left.symbols_are,
         after.left.padding_is,
       ) in
-      feeds_stop step s (at + 1) (subst P more (feeds_then step (reads_feeds after) (refuses_feeds left f same)))
+      record {
+        within = omega arith;
+        reads = after;
+        ends = (inside, rw (sym (byte_at s at inside)) (refuses_alike left is));
+      }
+
+  -- feeding a text with a fault returns its error after the bytes before it
+  pub reads_fault : {d d3 d4 : State F} {kind : Kind} (s : List ℕ) (at : ℕ) → ReadsTo step d s at (Some kind) d3
+      → d4 ≡ record d3 { failed = true } → Feeds step d (take (at + 1) s) (Err (InvalidBase64 kind)) d4
+  reads_fault {d} {d3} {d4} {kind = kind} s at r same =
+      let P : List ℕ → Type 0 = λ t. Feeds step d t (Err (InvalidBase64 kind)) d4 in
+      let more : take at s ++ get_or s at 0 ∷ [] ≡ take (at + 1) s = cc (take_more s at 0 r.ends.0) in
+      subst P more (feeds_then step (reads_feeds r.reads) (refuses_feeds r.ends.1 same))
+
+  -- the text of a tail that was read has no '#' and no '%'
+  pub reads_plain : {d d' : State F} {t held : List ℕ} → Reads step d t held d' → list_all is_plain t ≡ true
+  reads_plain {d} {t = t} r = plain_after (left_over d) t r.no_fault
+
+  -- an error of the closure ends the feeding of a text that has no fault up to an index
+  pub ends_within : {d d1 d2 : State F} {s held : List ℕ} {x : DecodeError E} (at : ℕ) → at ≤ length s
+      → Reads step d (take at s) held d1 → Feeds step d (take at s) (Err x) d2 → EndsWithin step d s x d2
+  ends_within at l r f = record { at = at; within = l; no_fault = r.no_fault; feeds = f }
 
   -- a block of symbols is read
   pub block_reads : {d d1 : State F} {bytes : List ℕ} (s : List ℕ) (at : ℕ) → IsBetweenGroups d1 → at + 64 ≤ length s

@@ -52,7 +52,7 @@ pub symbol_alone : {x y z : Bool} → Class x y z → z ≡ true → (x ≡ fals
 symbol_alone {x} {y} {z} k e = grind (arith, k.of_space, k.of_pad)
 
 -- whether a byte is a fault, from whether there is padding before it
-abbrev is_bad : Bool → ℕ → Bool
+abbrev pub is_bad : Bool → ℕ → Bool
 is_bad seen c = bad (is_ascii_whitespace c) (is_pad c) (is_symbol c) seen
 
 -- the byte at the first fault; there may be padding before the text
@@ -68,7 +68,7 @@ before_fault seen (c ∷ t) = cond (is_bad seen c) [] (c ∷ before_fault (seen 
 -- Two texts
 
 -- if a walk that begins with a byte finds no fault, the byte is no fault, and the walk after it finds none
-passed : (v : Bool) (c : ℕ) (o : Option ℕ) → cond v (Some c) o ≡ None → (v ≡ false) × (o ≡ None)
+pub passed : (v : Bool) (c : ℕ) (o : Option ℕ) → cond v (Some c) o ≡ None → (v ≡ false) × (o ≡ None)
 passed true c o h = absurd (some_not_none c h)
 passed false c o h = (refl, h)
 

@@ -1,11 +1,13 @@
 -- What a decoder does with input while decoded bytes are held, to be passed to the closure together.
-use Rattle.std.specs.Prelude.{[], ◌*◌, ◌++◌, ◌+◌, ◌/◌, ◌∷◌, ◌≡◌, ◌≤◌, Err, List, MatchResult, None, Ok, Result, false, is_err, is_some, length, take, true, ℕ}
+use Rattle.std.specs.Prelude.{[], ◌*◌, ◌++◌, ◌+◌, ◌/◌, ◌∷◌, ◌<◌, ◌≡◌, ◌≤◌, Err, List, MatchOption, MatchResult, None, Ok, Option, Result, false, is_err, is_some, length, slice_index, take, true, ℕ}
+use Rattle.std.specs.List.{list_all}
 use Rattle.data_url.specs.Base64.{Kind, complete_bytes, first_fault, kind_of}
 use Rattle.data_url.specs.Decoder.{Feeds, IsLeft, State, left_over}
 use Rattle.data_url.specs.Run.{Call, IsRun, joined_pieces, refusal}
 use Rattle.data_url.specs.declared.forgiving_base64.DecodeError.TheVariants.{WriteError}
 use Rattle.data_url.specs.declared.forgiving_base64.DecodeError.{DecodeError}
 use Rattle.data_url.specs.declared.forgiving_base64.left_over.State as left
+use Rattle.data_url.specs.Steps.Window.{is_plain}
 
 -- what a text leaves over, as the state of a decoder that has no closure and has not failed
 abbrev pub left_state : left.State → State (Unit {0})
@@ -64,6 +66,38 @@ pub record Reads {F E : Type 0} (step : F → List ℕ → Result (Unit {0}) E �
   pub bytes_are : joined_pieces run ++ held ≡ complete_bytes (left_over d ++ text)
   pub left : IsLeft (left_over d ++ text) d'
   pub going : d'.failed ≡ false
+
+-- d reads the text up to an index, and holds no bytes. The text ends there, or the byte there is a fault of this kind.
+pub record ReadsTo {F E : Type 0} (step : F → List ℕ → Result (Unit {0}) E → F → Type 0) (d : State F)
+    (text : List ℕ) (at : ℕ) (fault : Option Kind) (d' : State F) : Type 0 where
+  pub within : at ≤ length text
+  pub reads : Reads step d (take at text) [] d'
+  pub ends : MatchOption fault (at ≡ length text)
+      (λ kind. (at < length text) × Refuses d' (slice_index text at) kind d')
+
+-- the closure returns an error while d reads the text up to an index before which there is no fault
+pub record EndsWithin {F E : Type 0} (step : F → List ℕ → Result (Unit {0}) E → F → Type 0) (d : State F)
+    (text : List ℕ) (x : DecodeError E) (d' : State F) : Type 0 where
+  pub at : ℕ
+  pub within : at ≤ length text
+  pub no_fault : first_fault (left_over d ++ take at text) ≡ None
+  pub feeds : Feeds step d (take at text) (Err x) d'
+
+-- d reads a tail up to its first '#' or '%', or to its end
+pub record ReadsFront {F E : Type 0} (step : F → List ℕ → Result (Unit {0}) E → F → Type 0) (d : State F)
+    (tail : List ℕ) (place : ℕ) (d' : State F) : Type 0 where
+  pub within : place ≤ length tail
+  pub plain : list_all is_plain (take place tail) ≡ true
+  pub ends : place < length tail → is_plain (slice_index tail place) ≡ false
+  pub reads : Reads step d (take place tail) [] d'
+
+-- feeding d a tail up to an index before which there is no '#' and no '%' ends with an error
+pub record RefusesFront {F E : Type 0} (step : F → List ℕ → Result (Unit {0}) E → F → Type 0) (d : State F)
+    (tail : List ℕ) (x : DecodeError E) (d' : State F) : Type 0 where
+  pub at : ℕ
+  pub within : at ≤ length tail
+  pub plain : list_all is_plain (take at tail) ≡ true
+  pub feeds : Feeds step d (take at tail) (Err x) d'
 
 -- d passes these bytes, which are held, to its closure, whatever text was read before. After `Ok` the
 -- bytes that are held after them, b, are still held; an error ends the feeding.

@@ -2,9 +2,10 @@
 
 #![tactic(auto, using(crate::proofs::escapes::Walking::walks))]
 
-ghost use Rattle.std.specs.Prelude.{ℕ, [], ◌≡◌, ◌+◌, ◌<◌, drop, false, length, true};
+ghost use Rattle.std.specs.Prelude.{ℕ, [], ◌≡◌, ◌+◌, ◌<◌, ◌≤◌, drop, false, length, true};
+ghost use Rattle.data_url.specs.Url.{after, number_sign};
 ghost use Rattle.data_url.specs.Pieces.{is_slice_end, text_of, walk_at_start, walk_of};
-ghost use Rattle.data_url.specs.Steps.Chunks.{IsBodyPrefix};
+ghost use Rattle.data_url.specs.Steps.Chunks.{IsBodyFrom, IsBodyPrefix};
 ghost use Rattle.data_url.specs.Steps.Walk.{Gathering, GoesOn, IsPart, Knows, KnowsAhead, Looking, Searching, Spells};
 
 use super::Piece;
@@ -52,6 +53,31 @@ impl<'a> Cursor<'a> {
             },
             place: 0,
             ahead: Ahead::Unknown,
+        }
+    }
+
+    /// A walk that begins at a place of a text. The body ends there if the text does, or if a `#` is there.
+    #[inline(always)]
+    pub(super) fn after(text: &'a str, place: usize) -> Self
+        requires within { place ≤ length text.now }
+        requires no_hash { after number_sign (drop place text.now) ≡ after number_sign text.now }
+        ensures from { IsBodyFrom text.entry.now place (walk_of result) }
+        ensures knows { Knows result }
+    {
+        let bytes = text.as_bytes();
+        Cursor {
+            source: Source::new(text),
+            block: Block {
+                base: place,
+                seen: place,
+                marks: 0,
+            },
+            place,
+            ahead: if place == bytes.len() || bytes[place] == b'#' {
+                Ahead::End
+            } else {
+                Ahead::Unknown
+            },
         }
     }
 

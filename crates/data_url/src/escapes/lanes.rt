@@ -2,11 +2,10 @@
 
 #![tactic(auto, using(crate::proofs::escapes::BlockMarks::marks))]
 
-ghost use Rattle.std.specs.Prelude.{◌≡◌, ◌%◌, ◌/◌, ◌==◌, ◌^◌, ◌<◌, ◌≤◌, IsTrue, false, map};
+ghost use Rattle.std.specs.Prelude.{◌≡◌, ◌%◌, ◌/◌, ◌==◌, ◌^◌, ◌<◌, ◌≤◌, map};
 ghost use Rattle.std.specs.Simd.Lanes.{mask_l};
 ghost use Rattle.data_url.specs.Steps.Escapes.{AreHexCodes, escape_starts, place_values, stops};
-ghost use Rattle.std.specs.List.{list_all};
-ghost use Rattle.data_url.specs.Steps.Window.{is_marked, is_plain};
+ghost use Rattle.data_url.specs.Steps.Window.{is_marked};
 ghost use Rattle.data_url.specs.Url.{is_tab_or_newline, percent_sign};
 
 use std::simd::prelude::*;
@@ -34,15 +33,6 @@ pub(super) fn marks_of(bytes: u8x64, sparse: bool) -> u64
         .swizzle_dyn_within::<16>(bytes & u8x64::splat(15))
         .simd_eq(bytes)
         .to_bitmask()
-}
-
-/// Returns false only if there is no `#` and no `%`. The bytes from `#` to `%` are tested together.
-#[inline(always)]
-pub(super) fn may_stop(bytes: u8x64) -> bool
-    ensures { result ≡ false → IsTrue (list_all is_plain bytes) }
-{
-    let from_hash = bytes + u8x64::splat(255 - b'#' + 1);
-    from_hash.simd_le(u8x64::splat(b'%' - b'#')).any()
 }
 
 /// The places after those of a block.

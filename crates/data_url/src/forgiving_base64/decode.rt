@@ -32,7 +32,7 @@ where
     F: FnMut(&[u8]) -> Result<(), E>,
 {
     ghost use Rattle.std.specs.Fn.{CalledAt};
-    ghost use Rattle.data_url.specs.{Decoder.{Feeds, Finishes, start, state_of}, Steps.Holding.{CallsOnce, Flushes, Reads}};
+    ghost use Rattle.data_url.specs.{Decoder.{Feeds, Finishes, start, state_of}, Steps.Holding.{CallsOnce, EndsWithin, Flushes, Reads, ReadsFront, ReadsTo, RefusesFront}};
 
     /// Returns a decoder that has been fed nothing yet. The closure has to accept any bytes, whatever it was called
     /// with before.
@@ -112,14 +112,14 @@ where
     /// If the next symbol begins a group, calls the closure with each block of 64 symbols that a text begins with,
     /// decoded as one piece. Returns how many bytes of the text they take.
     #[inline(always)]
-    fn feed_blocks(&mut self, text: &[u8]) -> Result<usize, DecodeError<E>>
+    fn read_blocks(&mut self, text: &[u8]) -> Result<usize, DecodeError<E>>
         requires callable { F.IsAlwaysCallable (state_of self.old).closure }
         requires going { (state_of self.old).failed ≡ false }
         ensures callable { F.IsAlwaysCallable (state_of self.new).closure }
-        ensures fed { MatchResult result
+        ensures read { MatchResult result
             (λ taken. (taken ≤ length text.now) × Reads (CalledAt F.FnMut) (state_of self.old)
             (take taken text.now) [] (state_of self.new))
-            (λ error. Feeds (CalledAt F.FnMut) (state_of self.old) text.now (Err error)
+            (λ error. EndsWithin (CalledAt F.FnMut) (state_of self.old) text.now error
             (state_of self.new)) }
     {
         let mut at = 0;
@@ -128,6 +128,36 @@ where
             at += 64;
         }
         Ok(at)
+    }
+
+    /// Calls the closure with the bytes of the groups that a text completes before its first fault. Returns how many
+    /// bytes of the text come before the fault and what it is, or the length of the text if there is none.
+    fn read(&mut self, text: &[u8]) -> Result<(usize, Option<InvalidBase64Details>), DecodeError<E>>
+        requires callable { F.IsAlwaysCallable (state_of self.old).closure }
+        requires going { (state_of self.old).failed ≡ false }
+        ensures callable { F.IsAlwaysCallable (state_of self.new).closure }
+        ensures read { MatchResult result
+            (λ r. ReadsTo (CalledAt F.FnMut) (state_of self.old) text.now r.0 r.1 (state_of self.new))
+            (λ error. EndsWithin (CalledAt F.FnMut) (state_of self.old) text.now error
+            (state_of self.new)) }
+    {
+        let mut groups = HeldGroups::new();
+        let mut at = self.read_blocks(text)?;
+        while at < text.len() {
+            match self.state.take_some(&text[at..], &mut groups) {
+                Ok(taken) => at += taken,
+                Err(details) => {
+                    self.flush(groups.as_slice())?;
+                    return Ok((at, Some(details)));
+                }
+            }
+            if groups.len >= FULL {
+                self.flush(&groups.as_slice()[..FULL])?;
+                groups.drop_first();
+            }
+        }
+        self.flush(groups.as_slice())?;
+        Ok((at, None))
     }
 
     /// Decodes the next part of the text, in an encoding that contains ASCII. Calls the closure with the bytes of
@@ -147,22 +177,32 @@ where
         ensures fed { Feeds (CalledAt F.FnMut) (state_of self.old) input.now result
             (state_of self.new) }
     {
-        let mut groups = HeldGroups::new();
-        let mut at = self.feed_blocks(input)?;
-        while at < input.len() {
-            match self.state.take_some(&input[at..], &mut groups) {
-                Ok(taken) => at += taken,
-                Err(details) => {
-                    self.flush(groups.as_slice())?;
-                    return Err(self.refuse(details));
-                }
-            }
-            if groups.len >= FULL {
-                self.flush(&groups.as_slice()[..FULL])?;
-                groups.drop_first();
-            }
+        match self.read(input)?.1 {
+            None => Ok(()),
+            Some(details) => Err(self.refuse(details)),
         }
-        self.flush(groups.as_slice())
+    }
+
+    /// Decodes the tail of a data: URL up to its first `#` or `%`, as `feed` does: tabs and newlines are white space.
+    /// Returns the place of that byte, or the length of the tail. A fault before it is found at once.
+    pub(crate) fn feed_unescaped(&mut self, tail: &[u8]) -> Result<usize, DecodeError<E>>
+        requires callable { F.IsAlwaysCallable (state_of self.old).closure }
+        requires going { (state_of self.old).failed ≡ false }
+        ensures callable { F.IsAlwaysCallable (state_of self.new).closure }
+        ensures fed { MatchResult result
+            (λ place. ReadsFront (CalledAt F.FnMut) (state_of self.old) tail.now place (state_of self.new))
+            (λ error. RefusesFront (CalledAt F.FnMut) (state_of self.old) tail.now error
+            (state_of self.new)) }
+    {
+        let (place, fault) = self.read(tail)?;
+        let Some(details) = fault else {
+            return Ok(place);
+        };
+        let byte = tail[place];
+        if byte == b'#' || byte == b'%' {
+            return Ok(place);
+        }
+        Err(self.refuse(details))
     }
 
     /// Ends the text. If two or three symbols are left over, the closure is called once, with the one or two bytes

@@ -1,15 +1,15 @@
 use Rattle.std.{proofs.Common.{◌-◌, ◌<◌, ◌≤◌, length, take}, specs.Fn.{CalledAt, always_mut}}
 use Rattle.data_url.specs.{Decoder.{state_of}, Steps.Groups.{held_bytes}, Steps.Holding.{Reads}}
-use Rattle.data_url.proofs.forgiving_base64.decode.Decoder.feed.Given as goal
+use Rattle.data_url.proofs.forgiving_base64.decode.Decoder.read.Given as goal
 
 -- the text read so far was decoded; the bytes that the closure was not called with are held
 abbrev pub invariant-loop-at : goal.invariant-loop-at
 invariant-loop-at g l = record {
   callable : always_mut g.F.FnMut (state_of l.self).closure;
-  within : l.at ≤ length l.input;
+  within : l.at ≤ length l.text;
   few : l.groups.len < 192;
-  reads : Reads (CalledAt g.F.FnMut) (state_of l.fn.self) (take l.at l.input) (held_bytes l.groups) (state_of l.self);
+  reads : Reads (CalledAt g.F.FnMut) (state_of l.fn.self) (take l.at l.text) (held_bytes l.groups) (state_of l.self);
 }
 
 abbrev pub decreases-loop-at : goal.decreases-loop-at
-decreases-loop-at g l = length l.input - l.at
+decreases-loop-at g l = length l.text - l.at

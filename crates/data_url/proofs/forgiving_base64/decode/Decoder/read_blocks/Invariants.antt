@@ -1,6 +1,6 @@
 use Rattle.std.{proofs.Common.{◌-◌, ◌≤◌, [], length, take}, specs.Fn.{CalledAt, always_mut}}
 use Rattle.data_url.specs.{Decoder.{state_of}, Steps.Holding.{Reads}}
-use Rattle.data_url.proofs.forgiving_base64.decode.Decoder.feed_blocks.Given as goal
+use Rattle.data_url.proofs.forgiving_base64.decode.Decoder.read_blocks.Given as goal
 
 -- the closure was called with the bytes of all groups that were read
 abbrev pub invariant-loop-self : goal.invariant-loop-self
