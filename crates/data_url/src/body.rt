@@ -2,7 +2,7 @@
 
 ghost use Rattle.std.specs.Prelude.{◌+◌, ◌≡◌, ◌≤◌, false, length, true};
 ghost use Rattle.std.specs.Fn.{CalledAt};
-ghost use Rattle.data_url.specs.Steps.Chunks.{IsCallableUntilError, IsBodyPrefix, TakesRest};
+ghost use Rattle.data_url.specs.Steps.Chunks.{IsCallableUntilError, TakesRest};
 ghost use Rattle.data_url.specs.Steps.Tail.{IsBodyEnd};
 ghost use Rattle.data_url.specs.Fetch.{outcome, plain_body};
 ghost use Rattle.data_url.specs.DataUrl.{Decodes};
@@ -33,34 +33,11 @@ where
     Ok(pieces.end())
 }
 
-/// Calls a closure with a body that is not base64, from its prefix and the pieces after it. Returns the place in the text where
-/// the body ends.
-pub(crate) fn decode_plain<F, E>(
-    prefix: &[u8],
-    pieces: Pieces<'_>,
-    mut write: F,
-) -> (Result<usize, DecodeError<E>>, F)
-where
-    F: FnMut(&[u8]) -> Result<(), E>,
-    requires callable { F.IsAlwaysCallable write }
-    requires prefix { IsBodyPrefix pieces.text prefix.now pieces }
-    ensures { Decodes (CalledAt F.FnMut) write (length pieces.entry.text + 1)
-        (outcome false (plain_body pieces.entry.text)) (IsBodyEnd pieces.entry.text) result.0 result.1 }
-{
-    if !prefix.is_empty() {
-        if let Err(error) = write(prefix) {
-            return (Err(DecodeError::WriteError(error)), write);
-        }
-    }
-    let place = take_rest(pieces, &mut write);
-    (place.map_err(DecodeError::WriteError), write)
-}
-
 /// Calls a closure with the decoded bytes of a body of base64, from the text after the comma. Returns the place in the text
 /// where the body ends.
 ///
 /// The text before its first `%` and `#` is decoded where it is, with its tabs and newlines. What is left is the rest of a body.
-pub(crate) fn decode_base64<F, E>(tail: &str, write: F) -> (Result<usize, DecodeError<E>>, F)
+fn decode_base64<F, E>(tail: &str, write: F) -> (Result<usize, DecodeError<E>>, F)
 where
     F: FnMut(&[u8]) -> Result<(), E>,
     requires callable { F.IsAlwaysCallable write }
@@ -84,4 +61,30 @@ where
         }
         Err(error) => (Err(error), decoder.into_closure()),
     }
+}
+
+/// Calls a closure with a body, decoded if it is base64, from the text after the comma. Returns the place in the text where the
+/// body ends.
+pub(crate) fn decode_body<F, E>(
+    tail: &str,
+    base64: bool,
+    mut write: F,
+) -> (Result<usize, DecodeError<E>>, F)
+where
+    F: FnMut(&[u8]) -> Result<(), E>,
+    requires callable { F.IsAlwaysCallable write }
+    ensures { Decodes (CalledAt F.FnMut) write (length tail.entry.now + 1)
+        (outcome base64 (plain_body tail.entry.now)) (IsBodyEnd tail.entry.now) result.0 result.1 }
+{
+    if base64 {
+        return decode_base64(tail, write);
+    }
+    let (prefix, pieces) = Pieces::after_prefix(tail);
+    if !prefix.is_empty() {
+        if let Err(error) = write(prefix) {
+            return (Err(DecodeError::WriteError(error)), write);
+        }
+    }
+    let place = take_rest(pieces, &mut write);
+    (place.map_err(DecodeError::WriteError), write)
 }

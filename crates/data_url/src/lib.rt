@@ -21,7 +21,7 @@ mod percent;
 mod split;
 
 use ascii::trim;
-use body::{decode_base64, decode_plain};
+use body::decode_body;
 use escapes::{Pieces, fragment_at};
 use forgiving_base64::{DecodeError, DecodeToVecError, room_for};
 pub use fragment::FragmentIdentifier;
@@ -113,17 +113,19 @@ impl<'a> DataUrl<'a> {
         &self.mime_type
     }
 
-    /// Returns how much room to allocate first for a body that begins with `prefix` bytes of the text as they are.
-    fn room(&self, prefix: usize) -> usize
-        requires { prefix ≤ length (url_tail self.now) }
-    {
+    /// Returns how much room to allocate first for a body: for the whole of it if it is short, or if it is the text up to the
+    /// fragment as it is.
+    fn room(&self) -> usize {
         let tail = self.tail.as_bytes();
-        let is_whole = prefix == tail.len() || tail[prefix] == b'#';
-        let len = if is_whole {
-            prefix
-        } else {
-            prefix.max(tail.len().min(FIRST_ROOM))
-        };
+        let mut len = tail.len();
+        if len > FIRST_ROOM {
+            let prefix = Pieces::after_prefix(self.tail).0.len();
+            if prefix < len && tail[prefix] != b'#' {
+                len = prefix.max(FIRST_ROOM);
+            } else {
+                len = prefix;
+            }
+        }
         if self.base64 { room_for(len) } else { len }
     }
 
@@ -151,12 +153,7 @@ impl<'a> DataUrl<'a> {
         ensures { Decodes (CalledAt F.FnMut) write_body_bytes (length (url_tail self.now) + 1)
             (url_body self.now) (IsFragmentOf (url_tail self.now)) result.0 result.1 }
     {
-        let (answer, write) = if self.base64 {
-            decode_base64(self.tail, write_body_bytes)
-        } else {
-            let (prefix, pieces) = Pieces::after_prefix(self.tail);
-            decode_plain(prefix, pieces, write_body_bytes)
-        };
+        let (answer, write) = decode_body(self.tail, self.base64, write_body_bytes);
         match answer {
             Ok(place) => (
                 Ok(fragment_at(self.tail, place).map(FragmentIdentifier::new)),
@@ -208,16 +205,14 @@ impl<'a> DataUrl<'a> {
         ensures fragment { IfOk result (λ found. IsFragmentOf (url_tail self.now) found.1) }
         ensures error { IfErr result (IsBodyErrorOf (url_body self.now)) }
     {
-        let (prefix, pieces) = Pieces::after_prefix(self.tail);
-        let Ok(mut bytes) = Vec::with_capacity(alloc, self.room(prefix.len())) else {
+        let Ok(mut bytes) = Vec::with_capacity(alloc, self.room()) else {
             return Err(DecodeToVecError::OutOfMemory);
         };
-        let extend = |piece: &[u8]| -> Result<(), AllocError> { bytes.extend_from_slice(piece) };
-        let ended = if self.base64 {
-            decode_base64(self.tail, extend)
-        } else {
-            decode_plain(prefix, pieces, extend)
-        };
+        let ended = decode_body(
+            self.tail,
+            self.base64,
+            |piece: &[u8]| -> Result<(), AllocError> { bytes.extend_from_slice(piece) },
+        );
         match ended.0 {
             Ok(place) => Ok((
                 bytes,

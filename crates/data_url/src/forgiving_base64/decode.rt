@@ -141,8 +141,8 @@ where
             (λ error. EndsWithin (CalledAt F.FnMut) (state_of self.old) text.now error
             (state_of self.new)) }
     {
-        let mut groups = HeldGroups::new();
         let mut at = self.read_blocks(text)?;
+        let mut groups = HeldGroups::new();
         while at < text.len() {
             match self.state.take_some(&text[at..], &mut groups) {
                 Ok(taken) => at += taken,
