@@ -8,7 +8,6 @@ use std::fmt;
 use std::marker::Model;
 
 mod alphabet;
-mod blocks;
 mod decode;
 mod gaps;
 mod held;

@@ -1,6 +1,6 @@
 -- Feeding while decoded bytes are held. For the functions of `Decoder` that feed.
 use Rattle.std.proofs.Common.{Option, None, Some, is_some, Result, Ok, Err, refl, ap, sym, ◌∙◌, subst, arith}
-use Rattle.std.proofs.Common.{append_assoc, drop-drop, length-append, length-take, take-append-drop, append-nil}
+use Rattle.std.proofs.Common.{append_assoc, drop-drop, length-append, take-append-drop, append-nil}
 use Rattle.std.proofs.Common.{false, cond, min, ◌&&◌, ◌||◌, List, [], ◌∷◌, ◌++◌, length, map, drop, get_or, take, take-add}
 use Rattle.std.{proofs.Common.{get_or-drop, length-drop, MatchResult}, specs.Option.{option_or}}
 use Rattle.std.proofs.Common.{eqb, eqb-true, inl, inr, slice_index, ◌≡◌, ℕ, ◌+◌, ◌-◌, ◌/◌, ◌<◌, ◌≤◌, length-take-le, Bool, true}
@@ -333,15 +333,14 @@ module _ {F E : Type 0} (step : F → List ℕ → Result (Unit {0}) E → F →
 
   -- a block of symbols is read
   pub block_reads : {d d1 : State F} {bytes : List ℕ} (s : List ℕ) (at : ℕ) → IsBetweenGroups d1 → at + 64 ≤ length s
-      → true ≡ list_all is_symbol (take 64 (take (length s - at) (drop at s)))
-      → bytes ≡ groups (map symbol_value (take 64 (take (length s - at) (drop at s))))
+      → true ≡ list_all is_symbol (take 64 (drop at s)) → bytes ≡ groups (map symbol_value (take 64 (drop at s)))
       → Reads step d (take at s) [] d1 → Reads step d (take (at + 64) s) bytes d1
-  block_reads s at none within all is r =
-      let block = take (length s - at) (drop at s) in
-      let long : length (take 64 block) ≡ 64 =
-      length-take-le 64 block (omega (arith, length-take (length s - at) (drop at s), length-drop at s)) in
-      let alone = filter_all is_symbol (take 64 block) (every_list_all (take 64 block) (sym all)) in
-      reads_more s at 64 r (adds_whole (take 64 block) none r.going (record {
-        spaced = symbols_alone (take 64 block) (sym all);
+  block_reads {d} {d1} {bytes} s at none within all is r =
+      let block = take 64 (drop at s) in
+      let long : length block ≡ 64 = length-take-le 64 (drop at s) (omega (arith, length-drop at s)) in
+      let alone = filter_all is_symbol block (every_list_all block (sym all)) in
+      let joined : take at s ++ block ≡ take (at + 64) s = cc (take-add at 64 s) in
+      subst (λ t. Reads step d t bytes d1) joined (reads_then r (adds_whole block none r.going (record {
+        spaced = symbols_alone block (sym all);
         whole = omega (arith, long, ap length alone);
-      }) (cc (is, alone)))
+      }) (cc (is, alone))))

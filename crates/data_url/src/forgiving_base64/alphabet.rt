@@ -7,7 +7,7 @@ ghost use Rattle.std.specs.Simd.Lanes.{mask_l};
 ghost use Rattle.data_url.specs.Base64.{group_bytes, group_number, groups, is_symbol, symbol_value};
 ghost use Rattle.data_url.specs.Steps.{Groups.{is_symbol_or_space}, Lanes.{DecodesFront, number_bytes, numbers, value_of}};
 
-use crate::classes::lanes::{is_block_unmarked, is_unmarked, marks, row};
+use crate::classes::lanes::{is_block_unmarked, is_unmarked, marks, put, row};
 use std::simd::prelude::*;
 
 /// The value of each symbol, by its byte, and 64 for other bytes.
@@ -211,12 +211,16 @@ pub(crate) fn decode_row(bytes: u8x16) -> u8x16
     bytes_of_row(numbers_of_row(values_of_row(bytes)))
 }
 
-/// The bytes of the sixteen groups of a block of symbols, and then bytes without meaning.
+/// The bytes of the sixteen groups of a block of symbols.
 #[inline(always)]
-pub(crate) fn decode_block(bytes: u8x64) -> u8x64
+pub(crate) fn decode_block(bytes: u8x64) -> [u8; 48]
     requires { IsTrue (list_all is_symbol bytes) }
-    ensures len { length result ≡ 64 }
-    ensures bytes { take 48 result ≡ groups (map symbol_value bytes) }
+    ensures { result ≡ groups (map symbol_value bytes) }
 {
-    bytes_of_block(numbers_of_block(values_of_block(bytes)))
+    let decoded = bytes_of_block(numbers_of_block(values_of_block(bytes)));
+    let mut joined = [0; 48];
+    put(&mut joined, 0, decoded.extract::<0, 16>());
+    put(&mut joined, 16, decoded.extract::<16, 16>());
+    put(&mut joined, 32, decoded.extract::<32, 16>());
+    joined
 }

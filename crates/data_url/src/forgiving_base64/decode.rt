@@ -2,11 +2,14 @@
 
 ghost use Rattle.std.specs.Prelude.{◌≡◌, ◌%◌, ◌≤◌, [], Err, MatchResult, length, take, true, false};
 
-use super::alphabet::group_of;
-use super::blocks::{decode, is_whole};
+use super::alphabet::{decode_block, group_of, is_block_of_symbols};
 use super::held::{FULL, HeldGroups};
 use super::left_over::State;
 use super::{DecodeError, InvalidBase64, InvalidBase64Details};
+use std::simd::prelude::*;
+
+/// How many symbols are decoded together.
+const BLOCK: usize = 64;
 
 /// How many bytes the closure is called with at most: those of a block of 64 symbols.
 const PIECE: usize = 48;
@@ -122,10 +125,17 @@ where
             (λ error. EndsWithin (CalledAt F.FnMut) (state_of self.old) text.now error
             (state_of self.new)) }
     {
+        if !self.state.is_between_groups() {
+            return Ok(0);
+        }
         let mut at = 0;
-        while self.state.is_between_groups() && text.len() - at >= 64 && is_whole(&text[at..]) {
-            self.write(&decode(&text[at..]))?;
-            at += 64;
+        while text.len() - at >= BLOCK {
+            let block = u8x64::from_slice(&text[at..]);
+            if !is_block_of_symbols(block) {
+                return Ok(at);
+            }
+            self.write(&decode_block(block))?;
+            at += BLOCK;
         }
         Ok(at)
     }
