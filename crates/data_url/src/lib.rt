@@ -32,8 +32,11 @@ use std::alloc::{AllocError, Global};
 use std::error::Error;
 use std::fmt;
 
-/// The most room that is allocated for a body before its length is known.
+/// The most room, in bytes, that is allocated first for a body whose first bytes show that it is shorter than its text.
 const FIRST_ROOM: usize = 64 * 1024;
+
+/// How many bytes of a long text are looked at before room is allocated.
+const PROBED: usize = 4 * 1024;
 
 /// A data: URL ([Fetch Standard, section 6](https://fetch.spec.whatwg.org/#data-url-processor)): its MIME type, and
 /// its body and fragment as slices of the text that it was read from.
@@ -113,17 +116,14 @@ impl<'a> DataUrl<'a> {
         &self.mime_type
     }
 
-    /// Returns how much room to allocate first for a body: for the whole of it if it is short, or if it is the text up to the
-    /// fragment as it is.
+    /// Returns how much room to allocate first for a body: for all bytes of the tail as they are, if they are few or if the first
+    /// of them have no tab, newline, `%` or `#`, as if none came later.
     fn room(&self) -> usize {
-        let tail = self.tail.as_bytes();
-        let mut len = tail.len();
+        let mut len = self.tail.len();
         if len > FIRST_ROOM {
-            let prefix = Pieces::after_prefix(self.tail).0.len();
-            if prefix < len && tail[prefix] != b'#' {
-                len = prefix.max(FIRST_ROOM);
-            } else {
-                len = prefix;
+            let probed = self.tail.get(..PROBED).unwrap_or("#");
+            if Pieces::after_prefix(probed).0.len() < probed.len() {
+                len = FIRST_ROOM;
             }
         }
         if self.base64 { room_for(len) } else { len }
@@ -191,8 +191,8 @@ impl<'a> DataUrl<'a> {
 
     /// Returns the body's bytes and the fragment
     /// ([Fetch Standard, section 6](https://fetch.spec.whatwg.org/#data-url-processor)). Room for a body without tabs,
-    /// newlines and `%` is allocated once. For any other, room for at most 64 KiB, or for the bytes before the first of
-    /// these if they are more, is allocated first, and grows.
+    /// newlines and `%` is allocated once. For any other, room for at most 64 KiB is allocated first, or for all bytes
+    /// after the comma if the first 4 KiB of these have no tab, newline, `%` or `#`. It grows.
     ///
     /// Returns `InvalidBase64` with the first fault if the body is base64 that is not valid, and `OutOfMemory` if
     /// allocation fails. If both happen, it is `OutOfMemory` if allocation fails before the fault is found: room is
