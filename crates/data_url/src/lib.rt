@@ -116,17 +116,29 @@ impl<'a> DataUrl<'a> {
         &self.mime_type
     }
 
-    /// Returns how much room to allocate first for a body: for all bytes of the tail as they are, if they are few or if the first
-    /// of them have no tab, newline, `%` or `#`, as if none came later.
-    fn room(&self) -> usize {
-        let mut len = self.tail.len();
-        if len > FIRST_ROOM {
-            let probed = self.tail.get(..PROBED).unwrap_or("#");
-            if Pieces::after_prefix(probed).0.len() < probed.len() {
-                len = FIRST_ROOM;
-            }
-        }
+    /// Returns how much room a body takes that is this many bytes of the text as they are.
+    fn room(&self, len: usize) -> usize {
         if self.base64 { room_for(len) } else { len }
+    }
+
+    /// Returns how many bytes of the tail room is allocated for first: for all of them if they are few, or if the first of them
+    /// have no tab, newline, `%` or `#`.
+    fn first_len(&self) -> usize {
+        let len = self.tail.len();
+        let probed = self.tail.get(..PROBED).unwrap_or("");
+        if len <= FIRST_ROOM || Pieces::after_prefix(probed).0.len() == PROBED {
+            return len;
+        }
+        FIRST_ROOM
+    }
+
+    /// Gives room back that was allocated for the fragment, if the text up to it, at a place, is the body as it is.
+    fn shrink(&self, body: &mut Vec<u8>, place: usize)
+        ensures { body.new.items ≡ body.old.items }
+    {
+        if place < self.tail.len() && Pieces::after_prefix(self.tail).0.len() == place {
+            body.shrink_to(self.room(place));
+        }
     }
 
     /// Calls a closure with the body's bytes, piece by piece. Returns the fragment
@@ -191,8 +203,9 @@ impl<'a> DataUrl<'a> {
 
     /// Returns the body's bytes and the fragment
     /// ([Fetch Standard, section 6](https://fetch.spec.whatwg.org/#data-url-processor)). Room for a body without tabs,
-    /// newlines and `%` is allocated once. For any other, room for at most 64 KiB is allocated first, or for all bytes
-    /// after the comma if the first 4 KiB of these have no tab, newline, `%` or `#`. It grows.
+    /// newlines and `%` is allocated once, by the length of the text after the comma. Then room for a fragment is given
+    /// back. For any other body of more than 64 KiB, room for 64 KiB is allocated first, and grows, unless the first of
+    /// these characters comes after more than 4 KiB.
     ///
     /// Returns `InvalidBase64` with the first fault if the body is base64 that is not valid, and `OutOfMemory` if
     /// allocation fails. If both happen, it is `OutOfMemory` if allocation fails before the fault is found: room is
@@ -205,7 +218,7 @@ impl<'a> DataUrl<'a> {
         ensures fragment { IfOk result (λ found. IsFragmentOf (url_tail self.now) found.1) }
         ensures error { IfErr result (IsBodyErrorOf (url_body self.now)) }
     {
-        let Ok(mut bytes) = Vec::with_capacity(alloc, self.room()) else {
+        let Ok(mut bytes) = Vec::with_capacity(alloc, self.room(self.first_len())) else {
             return Err(DecodeToVecError::OutOfMemory);
         };
         let ended = decode_body(
@@ -214,10 +227,13 @@ impl<'a> DataUrl<'a> {
             |piece: &[u8]| -> Result<(), AllocError> { bytes.extend_from_slice(piece) },
         );
         match ended.0 {
-            Ok(place) => Ok((
-                bytes,
-                fragment_at(self.tail, place).map(FragmentIdentifier::new),
-            )),
+            Ok(place) => {
+                self.shrink(&mut bytes, place);
+                Ok((
+                    bytes,
+                    fragment_at(self.tail, place).map(FragmentIdentifier::new),
+                ))
+            }
             Err(error) => Err(DecodeToVecError::of(error)),
         }
     }

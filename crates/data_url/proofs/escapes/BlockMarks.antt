@@ -1,9 +1,9 @@
 -- Blocks of a text and their marks: lanes that are looked up in a table and compared. For `marks_of`, `look_block`
 -- and `next_mark`.
-use Rattle.std.proofs.Common.{List, [], ◌∷◌, ◌++◌, length, drop, get_or, refl, sym, ap, ◌∙◌, arith}
-use Rattle.std.proofs.Common.{bit_and, w8, Fits, ◌≢◌, inl, inr, ◌==◌, slice_range, take_all, length-take-le}
+use Rattle.std.proofs.Common.{slice_index, List, [], ◌∷◌, ◌++◌, length, drop, get_or, refl, sym, ap, ◌∙◌, arith}
+use Rattle.std.proofs.Common.{bit_and, w8, Fits, ◌≢◌, inl, inr, ◌==◌, slice_range, length-take-le}
 use Rattle.std.proofs.Common.{take-take}
-use Rattle.std.proofs.Common.{eqb, eqb-true, take, ◌/◌, ◌^◌, map, min, replicate, ◌%◌}
+use Rattle.std.proofs.Common.{eqb, eqb-true, take, ◌/◌, ◌^◌, map, replicate, ◌%◌}
 use Rattle.std.proofs.Common.{map-id, ◌≡◌, ℕ, zero, suc, ◌+◌, ◌-◌, ◌<◌, ◌≤◌, Bool, true, false, not, cond}
 use Rattle.std.{proofs.Common.{leb}, proofs.Math.Nat.{div-div-eq-div-mul, pow-suc}}
 use Rattle.std.proofs.lemmas.Nat.{and_le_r}
@@ -57,21 +57,6 @@ marks_padded (x ∷ xs) k = grind (arith, marks_padded xs k)
 pub padded_is : (rest new zeros : List ℕ) (k : ℕ) → new ≡ rest → zeros ≡ replicate 64 0 → k ≡ length rest
     → put_mid 0 k zeros new ≡ rest ++ replicate (64 - length rest) 0
 padded_is rest new zeros k e z l = cc (ap (drop k) z, drop-replicate {X = ℕ} k 64 0)
-
--- the marks of the first 64 bytes from an index on, or of fewer, are those of the block there
-pub block_at : (text bytes : List ℕ) (place seen marks : ℕ) → bytes ≡ text → place ≤ length text
-    → seen ≡ min (place + 64) (length text)
-    → marks ≡ mask_l (map is_marked (take 64 (take (length bytes - place) (drop place bytes))))
-    → IsBlock text place seen marks
-block_at text bytes place seen marks e l s m =
-    let n = length-drop place text in
-    let all : take (length bytes - place) (drop place bytes) ≡ drop place text = cc (take_rest bytes place) in
-    let same : take 64 (drop place text) ≡ slice_range text place seen = elim (cases_lt 64 (length text - place)) [
-      | inl h ↦ let k : 64 ≡ seen - place = omega arith in ap (λ i. take i (drop place text)) k
-      | inr h ↦ take_all 64 (drop place text) (omega arith)
-          ∙ sym (take_all (seen - place) (drop place text) (omega arith))
-    ] in
-    record { base_le = omega arith; seen_le = omega arith; short = omega arith; marks_are = cc }
 
 -- a mask that is shifted by k bits is the mask of the list without its first k items
 pub mask_later : (bs : List Bool) (k : ℕ) → mask_l bs / 2 ^ k ≡ mask_l (drop k bs)
@@ -185,10 +170,26 @@ pub block_from : {s : Source} {b : Block} {place marks : ℕ} → Looking s b pl
 block_from {s} {b} {place} {marks} k l e = grind (arith, mask_later, drop-map, drop_taken, drop-drop)
 
 -- when the block at an index is read, the walk can go on there
-pub looking_block : {s s' : Source} {b b' : Block} {place : ℕ} → Looking s b place 0 → b.seen ≤ place
-    → s'.text.now ≡ s.text.now → b'.base ≡ place → IsBlock s.text.now place b'.seen b'.marks
-    → s'.looks + place ≡ s.looks + b'.seen → Looking s' b' place 0
-looking_block {s} {s'} {b} {b'} {place} k l t e i n = grind arith
+pub looking_read : {s s' : Source} {b : Block} {place marks : ℕ} (bytes : List ℕ) → Looking s b place 0
+    → b.seen ≤ place → place + 64 ≤ length s.text.now → s'.text.now ≡ s.text.now → s'.looks ≡ s.looks + 64
+    → bytes ≡ take 64 (drop place s.text.now) → marks ≡ mask_l (map is_marked bytes)
+    → Looking s' (record { base = place; seen = place + 64; marks = marks }) place 0
+looking_read {s} {s'} {b} {place} {marks} bytes k seen within t l e m =
+    let size : place + 64 - place ≡ 64 = omega arith in
+    let all : slice_range s'.text.now place (place + 64) ≡ bytes =
+    ap (λ n. take n (drop place s'.text.now)) size ∙ ap (λ (x : List ℕ). take 64 (drop place x)) t ∙ sym e in
+    let long : place + 64 ≤ length s'.text.now = rw t within in
+    record {
+      block = record {
+        base_le = omega arith;
+        seen_le = long;
+        short = omega arith;
+        marks_are = m ∙ ap (λ x. mask_l (map is_marked x)) (sym all);
+      };
+      base_le = omega arith;
+      within = omega arith;
+      looks_are_paid = rw t (omega (arith, k.looks_are_paid));
+    }
 
 -- if the marks of a block are not 0, their number of trailing zeros is that of the bytes before the next mark
 pub found : {text : List ℕ} {place seen marks : ℕ} (width : ℕ) → IsBlock text place seen marks → marks ≢ 0
@@ -216,5 +217,23 @@ looking_mark {s} {b} {place} {to} k m = looking_on to k m.forward m.within
 pub looking_seen : {s : Source} {b : Block} {place : ℕ} → Looking s b place 0 → place ≤ b.seen → Looking s b b.seen 0
 looking_seen {s} {b} {place} k l = looking_on b.seen k l k.block.seen_le
 
+-- two stretches without marks, one after the other, are one
+pub clear_then : {text text' : List ℕ} {from place to : ℕ} → text' ≡ text → IsClear text from place
+    → IsClear text' place to → IsClear text from to
+clear_then {place = place} e a b = λ k l m. elim (cases_lt k place) [
+  | inl h ↦ a k l h
+  | inr h ↦ ap (λ (t : List ℕ). is_marked (slice_index t k)) (sym e) ∙ b k h m
+]
+
+-- the next mark after a stretch without marks is the next one from its start on
+pub mark_then : {text text' : List ℕ} {from place mark : ℕ} → text' ≡ text → from ≤ place → IsClear text from place
+    → IsNextMark text' place mark → IsNextMark text from mark
+mark_then e l a m = record {
+  forward = omega (arith, m.forward);
+  within = rw e at m.within;
+  clear = clear_then e a m.clear;
+  marked = rw e at m.marked;
+}
+
 -- the lemmas for `next_mark` and `stop_at`
-pub ruleset stops = (paid_percent, escape_ends, drop_more, looking_mark, looking_seen, looking_block)
+pub ruleset stops = (paid_percent, escape_ends, drop_more, looking_mark, looking_seen, looking_read, clear_then, mark_then)

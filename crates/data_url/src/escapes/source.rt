@@ -98,27 +98,6 @@ impl<'a> Source<'a> {
         rest
     }
 
-    /// Reads the block of at most 64 bytes at a place. Each of its bytes counts as a look. It is faster if all are greater
-    /// than `%`, as symbols of base64 are.
-    #[inline(always)]
-    pub(super) fn look_block(&mut self, place: usize) -> Block
-        requires { place ≤ length self.old.text.now }
-        ensures base { result.base ≡ place }
-        ensures seen { result.seen ≡ min (place + 64) (length self.old.text.now) }
-        ensures block { IsBlock self.old.text.now place result.seen result.marks }
-        ensures text { self.new.text.now ≡ self.old.text.now }
-        ensures looks { self.new.looks + place ≡ self.old.looks + result.seen }
-    {
-        let rest = &self.text.as_bytes()[place..];
-        let len = rest.len().min(BLOCK);
-        self.looks.count(len);
-        Block {
-            base: place,
-            seen: place + len,
-            marks: first_marks(rest),
-        }
-    }
-
     /// Returns a stretch of the text. None of its bytes is examined.
     #[inline(always)]
     pub(super) fn cut(&self, start: usize, end: usize) -> &'a [u8]
@@ -178,21 +157,9 @@ pub(crate) fn fragment_at(text: &str, place: usize) -> Option<&str>
     Some(&text[place + 1..])
 }
 
-/// Returns the marks of the first 64 bytes, or of fewer.
-#[inline(always)]
-fn first_marks(rest: &[u8]) -> u64
-    ensures { result ≡ mask_l (map is_marked (take 64 rest.now)) }
-{
-    if rest.len() < BLOCK {
-        last_marks(rest)
-    } else {
-        marks_of(u8x64::from_slice(&rest[..BLOCK]), true)
-    }
-}
-
 /// Returns the marks of fewer than 64 bytes.
 #[inline(never)]
-fn last_marks(rest: &[u8]) -> u64
+pub(super) fn last_marks(rest: &[u8]) -> u64
     requires { length rest.now < 64 }
     ensures { result ≡ mask_l (map is_marked rest.now) }
 {

@@ -6,7 +6,8 @@ ghost use Rattle.std.specs.Prelude.{IsTrue, ◌≡◌, ◌+◌, ◌^◌, ◌<◌
 ghost use Rattle.data_url.specs.Steps.Walk.{IsClear, IsNextMark, IsStop, Looking, LooksOn};
 ghost use Rattle.data_url.specs.Steps.Window.{is_marked};
 
-use super::source::Source;
+use super::lanes::{BLOCK, marks_of};
+use super::source::{Source, last_marks};
 
 /// The block of a text that was read last, from `base` up to `seen`, with a bit for each marked byte.
 #[derive(Drop)]
@@ -60,14 +61,31 @@ impl Block {
             }
             place = self.seen;
         }
-        while place < source.len() {
-            *self = source.look_block(place);
+        while source.len() - place >= BLOCK {
+            let bytes = source.look_bytes(place);
+            *self = Block {
+                base: place,
+                seen: place + BLOCK,
+                marks: marks_of(bytes, true),
+            };
             if let Some(mark) = self.mark_from(source, place) {
                 return mark;
             }
-            place = self.seen;
+            place += BLOCK;
         }
-        place
+        if place == source.len() {
+            return place;
+        }
+        let rest = source.look_rest(place);
+        *self = Block {
+            base: place,
+            seen: place + rest.len(),
+            marks: last_marks(rest),
+        };
+        match self.mark_from(source, place) {
+            Some(mark) => mark,
+            None => self.seen,
+        }
     }
 }
 
