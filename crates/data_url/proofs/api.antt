@@ -1,7 +1,7 @@
 -- The only proofs of the library that callers may use. docs/CALLING.md says what they are for.
 pub use Rattle.data_url.proofs.body.Decoding.{EndsWith, body_answer, body_ends, body_extends, body_fault, body_good}
-pub use Rattle.data_url.proofs.body.Decoding.{body_keeps, body_shorter, body_within_tail, body_within_text, run_counts}
-pub use Rattle.data_url.proofs.body.Decoding.{outcome_shorter, run_counts_up_to, run_ends, run_extends}
+pub use Rattle.data_url.proofs.body.Decoding.{body_keeps, body_shorter, body_within_tail, body_within_text}
+pub use Rattle.data_url.proofs.body.Decoding.{outcome_shorter}
 unfoldable pub use Rattle.data_url.proofs.{examples.Literals.{on_literals}, forgiving_base64.Padding.{fault_byte}}
 pub use Rattle.data_url.proofs.forgiving_base64.Groups.{groups_length, two_feeds}
 pub use Rattle.data_url.proofs.forgiving_base64.Padding.{after_groups-append, done_stays, every_after}
@@ -13,7 +13,7 @@ pub use Rattle.data_url.proofs.forgiving_base64.Steps.{fault_more, fault_other, 
 pub use Rattle.data_url.proofs.forgiving_base64.Steps.{feeds_none, feeds_then, feeds_took, groups_few, has_pad}
 pub use Rattle.data_url.proofs.forgiving_base64.Steps.{kind_left, left_more, padding_more, symbols_more}
 pub use Rattle.data_url.proofs.forgiving_base64.WholeTexts.{decodes_finished, decodes_keeps, decodes_reads}
-pub use Rattle.data_url.proofs.forgiving_base64.WholeTexts.{decodes_refused, fed_nothing, run_keeps, run_reads}
+pub use Rattle.data_url.proofs.forgiving_base64.WholeTexts.{decodes_refused, fed_nothing}
 pub use Rattle.data_url.proofs.header.Ends.{flag_encoded, flag_false, flag_true, spelled_scheme}
 pub use Rattle.data_url.proofs.header.Stages.{body_of_url, bytes_by_place, bytes_trimmed, fragment_of_url, is_accepted}
 pub use Rattle.data_url.proofs.header.Stages.{lacks_comma, rest_bytes, scheme_has_no_comma, stages_accepted}
@@ -21,7 +21,8 @@ pub use Rattle.data_url.proofs.header.{Serialising.{suffix_stop}, Stages.{stages
 pub use Rattle.data_url.proofs.mime.{FirstNames.{test_from_different}, TokenTexts.{every_from_all}}
 pub use Rattle.data_url.proofs.percent.Encoding.{IsBytes, ascii_all, decoded_keeps, two_digits}
 pub use Rattle.data_url.proofs.runs.Runs.{match_alike, match_at_none, match_map, match_none, match_some, prefix_after}
-pub use Rattle.data_url.proofs.runs.Runs.{prefix_none, prefix_trans}
+pub use Rattle.data_url.proofs.runs.Runs.{prefix_none, prefix_trans, run_counts, run_counts_up_to, run_ends, run_extends}
+pub use Rattle.data_url.proofs.runs.Runs.{run_keeps, run_reads}
 pub use Rattle.data_url.proofs.texts.Bytes.{before-append, before_all, before_at, after-append, after-dropped_none}
 pub use Rattle.data_url.proofs.texts.Bytes.{after_at, after_nil, after_none, after_other, dropped_around}
 pub use Rattle.data_url.proofs.texts.Bytes.{dropped_keeps, dropped_nil, dropped_passes, fragment_dropped, is_cut, lacks}

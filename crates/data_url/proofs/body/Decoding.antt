@@ -1,9 +1,9 @@
 -- A closure or a decoder that gets a body piece by piece. For `decode_pieces`, `decode_body` and its callers.
-use Rattle.std.proofs.Common.{IsErr, Result, Ok, Err, refl, sym, ap, ◌∙◌, append_assoc, arith, length-append, Bool}
+use Rattle.std.proofs.Common.{Result, Ok, Err, refl, sym, ap, ◌∙◌, append_assoc, arith, length-append, Bool}
 use Rattle.std.{proofs.Common.{MatchBool}, proofs.lemmas.List.{length-map}}
-use Rattle.std.proofs.Common.{Some, false, cond, min, length-drop, length-take, MatchOption, MatchResult}
+use Rattle.std.proofs.Common.{Some, false, cond, length-drop, length-take, MatchOption, MatchResult}
 use Rattle.std.proofs.Common.{true, append-nil, ◌≡◌, ℕ, ◌+◌, ◌≤◌, List, [], ◌∷◌, ◌++◌, Bor, length, Option, None}
-use Rattle.std.{specs.Fn.{CalledAt, Mut, always_mut}, specs.Option.{option_or}, specs.Result.{result_err}}
+use Rattle.std.{specs.Fn.{CalledAt, Mut, always_mut}}
 use Rattle.data_url.specs.Base64.{decoded, complete_bytes, kind_of, after_groups, groups, rest_bytes, values}
 use Rattle.data_url.specs.Base64.{without_whitespace}
 use Rattle.data_url.proofs.forgiving_base64.Padding.{decoded_alike, done_alike, kind_alike, valid_alike}
@@ -24,9 +24,9 @@ use Rattle.data_url.specs.Url.{after, trimmed_text}
 use Rattle.data_url.specs.declared.forgiving_base64.DecodeError.TheVariants.{WriteError, InvalidBase64}
 use Rattle.data_url.proofs.forgiving_base64.Groups.{groups_length, filter_length}
 use Rattle.data_url.proofs.forgiving_base64.Steps.{feeds_err, feeds_then}
-use Rattle.data_url.proofs.forgiving_base64.WholeTexts.{decodes_finished, decodes_refused, run_keeps}
-use Rattle.data_url.proofs.{forgiving_base64.WholeTexts.{run_reads}, runs.Runs.{run-append}, texts.Bytes.{is_cut}}
-use Rattle.data_url.proofs.runs.Runs.{prefix_after, joined_pieces-append, match_at, match_at_none, refusal-append}
+use Rattle.data_url.proofs.forgiving_base64.WholeTexts.{decodes_finished, decodes_refused}
+use Rattle.data_url.proofs.{runs.Runs.{run-append, run_ends, run_keeps, run_preserves}, texts.Bytes.{is_cut}}
+use Rattle.data_url.proofs.runs.Runs.{prefix_after, joined_pieces-append, match_at, refusal-append}
 use denote.Param.Always.{mut_next}
 pub use Rattle.data_url.proofs.escapes.Reading.{body_shorter}
 
@@ -85,67 +85,6 @@ module _ {F E : Type 0} (step : F → List ℕ → Result (Unit {0}) E → F →
           ),
         );
       }
-
-  -- at the end of the body, the closure was called with the whole of it
-  pub rest_taken : {f g : F} {w0 w : Walk} {place : ℕ} → TakesOn step f w0 g w → w.rest ≡ [] → IsBodyEnd w.text place
-      → TakesRest step f w0 (Ok place) g
-  rest_taken {f} {g} {w0} {w} {place} a over end = record {
-    run = a.run;
-    ran = a.ran;
-    calls = omega (arith, a.calls, a.within, ap length a.text_stays);
-    gave = (rw a.text_stays at end, a.accepted, cc (a.body, over, append-nil (joined_pieces a.run)));
-  }
-
-module _ {F E : Type 0} (step : F → List ℕ → Result (Unit {0}) E → F → Type 0)
-    (kept : List ℕ → F → Type 0) (stopped : List ℕ → E → F → Type 0)
-    (accepts : (bytes : List ℕ) (f : F) (piece : List ℕ) (g : F) → kept bytes f → step f piece (Ok tt) g
-    → kept (bytes ++ piece) g)
-    (refuses : (bytes : List ℕ) (f : F) (piece : List ℕ) (e : E) (g : F) → kept bytes f → step f piece (Err e) g
-    → stopped (bytes ++ piece) e g) where
-  -- after one call and those that follow it
-  one_more : (r : Result (Unit {0}) E) (bytes piece : List ℕ) (f after g : F) (cs : List (Call F E)) → kept bytes f
-      → step f piece r after → (IsErr r → cs ≡ []) → IsRun step after cs g
-      → (kept (bytes ++ piece) after → MatchOption (refusal cs) (kept ((bytes ++ piece) ++ joined_pieces cs) g)
-      (λ e. stopped ((bytes ++ piece) ++ joined_pieces cs) e g))
-      → MatchOption (option_or (result_err r) (refusal cs)) (kept (bytes ++ (piece ++ joined_pieces cs)) g)
-      (λ e. stopped (bytes ++ (piece ++ joined_pieces cs)) e g)
-  one_more (Ok tt) bytes piece f after g cs k s last ran more = grind (arith, append_assoc)
-  one_more (Err e) bytes piece f after g cs k s last ran more = grind (arith, append-nil)
-
-  -- a run from a state with `kept` ends with `kept` if no call returned an error, and otherwise with `stopped`
-  run_ends_from : (cs : List (Call F E)) (bytes : List ℕ) (f g : F) → kept bytes f → IsRun step f cs g
-      → MatchOption (refusal cs) (kept (bytes ++ joined_pieces cs) g) (λ e. stopped (bytes ++ joined_pieces cs) e g)
-  run_ends_from [] bytes f g k ran = grind (arith, append-nil)
-  run_ends_from (c ∷ cs) bytes f g k ran = one_more c.answer bytes c.piece f c.after g cs k ran.0 ran.1 ran.2
-      (λ more. run_ends_from cs (bytes ++ c.piece) c.after g more ran.2)
-
--- if each call that succeeds preserves `kept`, a property of the bytes so far and the state, then `kept` is true after
--- a run without an error; if a call that fails makes `stopped` true, then `stopped` is true after a run with an error
-pub run_ends : {F E : Type 0} (step : F → List ℕ → Result (Unit {0}) E → F → Type 0) (cs : List (Call F E)) (f g : F)
-    → IsRun step f cs g → (kept : List ℕ → F → Type 0) (stopped : List ℕ → E → F → Type 0)
-    → ((bytes : List ℕ) (p : F) (piece : List ℕ) (q : F) → kept bytes p → step p piece (Ok tt) q
-    → kept (bytes ++ piece) q)
-    → ((bytes : List ℕ) (p : F) (piece : List ℕ) (e : E) (q : F) → kept bytes p → step p piece (Err e) q
-    → stopped (bytes ++ piece) e q)
-    → kept [] f → MatchOption (refusal cs) (kept (joined_pieces cs) g) (λ e. stopped (joined_pieces cs) e g)
-run_ends step cs f g ran kept stopped accepts refuses start =
-    run_ends_from step kept stopped accepts refuses cs [] f g start ran
-
--- what each call that succeeds preserves, a property of the bytes so far and the state, is true after a run without an
--- error
-run_kept : {F E : Type 0} (step : F → List ℕ → Result (Unit {0}) E → F → Type 0) (cs : List (Call F E)) (f g : F)
-    → IsRun step f cs g → refusal cs ≡ None → (kept : List ℕ → F → Type 0)
-    → ((bytes : List ℕ) (p : F) (piece : List ℕ) (q : F) → kept bytes p → step p piece (Ok tt) q
-    → kept (bytes ++ piece) q) → kept [] f → kept (joined_pieces cs) g
-run_kept step cs f g ran n kept accepts start =
-    match_at_none (refusal cs) _ _ n (run_ends step cs f g ran kept (λ bytes e p. Unit {0}) accepts
-    (λ bytes p piece e q k s. tt) start)
-
--- what each call that succeeds preserves is true after a run without an error
-pub run_preserves : {F E : Type 0} (step : F → List ℕ → Result (Unit {0}) E → F → Type 0) (K : F → Type 0)
-    → ((p : F) (piece : List ℕ) (q : F) → K p → step p piece (Ok tt) q → K q)
-    → (cs : List (Call F E)) (f g : F) → IsRun step f cs g → refusal cs ≡ None → K f → K g
-run_preserves step K keeps cs f g ran n k = run_kept step cs f g ran n (λ bytes. K) (λ bytes. keeps) k
 
 -- what each call that succeeds preserves is true after a closure took the rest of a body
 pub rest_preserves : {F E : Type 0} {step : F → List ℕ → Result (Unit {0}) E → F → Type 0} {f g : F} {w : Walk}
@@ -379,33 +318,6 @@ module _ {C F E : Type 0} {outer : C → List ℕ → Result (Unit {0}) (DecodeE
       cc (from.rest_is, t.gave.2) in
       rw (sym (mapped end p q m)) (outcome_of step end p (front_body tail place front.within front.plain)
       (decodes_finished step refl (rw whole at k) ended) (λ _. rw from.text_is at t.gave.0))
-
--- if each call that succeeds extends a measure by its piece, a run without an error extends it by all its bytes
-pub run_extends : {F E : Type 0} (step : F → List ℕ → Result (Unit {0}) E → F → Type 0) (cs : List (Call F E)) (f g : F)
-    → IsRun step f cs g → refusal cs ≡ None → (measure : F → List ℕ)
-    → ((p : F) (piece : List ℕ) (q : F) → step p piece (Ok tt) q → measure q ≡ measure p ++ piece)
-    → measure g ≡ measure f ++ joined_pieces cs
-run_extends step cs f g ran n measure extends = grind (arith, run_reads)
-
--- if each call that succeeds adds the length of its piece to a count, a run without an error adds the length of all its
--- bytes
-pub run_counts : {F E : Type 0} (step : F → List ℕ → Result (Unit {0}) E → F → Type 0) (cs : List (Call F E)) (f g : F)
-    → IsRun step f cs g → refusal cs ≡ None → (count : F → ℕ)
-    → ((p : F) (piece : List ℕ) (q : F) → step p piece (Ok tt) q → count q ≡ count p + length piece)
-    → count g ≡ count f + length (joined_pieces cs)
-run_counts {F = F} step cs f g ran n count adds =
-    let P : List ℕ → F → Type 0 = λ bytes p. count p ≡ count f + length bytes in
-    run_kept step cs f g ran n P (λ bytes p piece q k s. grind (arith, adds p piece q, length-append)) (omega arith)
-
--- if each call that succeeds adds the length of its piece to a count that stops at `most`, a run without an error adds
--- the length of all its bytes, up to `most`
-pub run_counts_up_to : {F E : Type 0} (step : F → List ℕ → Result (Unit {0}) E → F → Type 0) (cs : List (Call F E))
-    (f g : F) (most : ℕ) → IsRun step f cs g → refusal cs ≡ None → (count : F → ℕ) → count f ≤ most
-    → ((p : F) (piece : List ℕ) (q : F) → step p piece (Ok tt) q → count q ≡ min (count p + length piece) most)
-    → count g ≡ min (count f + length (joined_pieces cs)) most
-run_counts_up_to {F = F} step cs f g most ran n count few adds =
-    let P : List ℕ → F → Type 0 = λ bytes p. count p ≡ min (count f + length bytes) most in
-    run_kept step cs f g ran n P (λ bytes p piece q k s. grind (arith, adds p piece q, length-append)) (omega arith)
 
 -- how decoding a body ended, with what is then true of the closure and the bytes that it was called with
 abbrev pub EndsWith : {F E A : Type 0} → (List ℕ → F → Type 0) → (List ℕ → E → F → Type 0) → Outcome → (A → Type 0) → F

@@ -138,24 +138,6 @@ pub none_marked : (v : List ℕ) → length v ≡ 64
     → 0 ≡ mask_l (map is_marked v)
 none_marked v long e = none_low v (sym (bitmask_splat w8 leb v 64 37 long (omega arith)) ∙ e)
 
--- if no byte is one of the three from '#' on, none is '#' or '%'
-none_stops : (v : List ℕ) → mask_l (map (λ b. leb b 2) (map (λ b. (b + 221) % 256) v)) ≡ 0 → list_all is_plain v ≡ true
-none_stops [] e = refl
-none_stops (b ∷ v) e = grind (arith, none_stops v)
-
--- a mask that is not other than 0 is 0
-pub no_bits : (m : ℕ) → not (m == 0) ≡ false → m ≡ 0
-no_bits m e = grind arith
-
--- if a comparison of lanes finds no such byte, there is no '#' and no '%'
-pub may_not_stop : (v : List ℕ) → length v ≡ 64
-    → mask_l (map (top 7) (zip2 (λ a b. cond (leb a b) 255 0) (zip2 (λ a b. (a + b) % 256) v (replicate 64 221))
-    (replicate 64 2))) % 2 ^ 64 ≡ 0 → list_all is_plain v ≡ true
-may_not_stop v long e =
-    let moved = zip2_splat (λ a b. (a + b) % 256) v 64 221 long in
-    let few = length-map v (λ b. (b + 221) % 256) ∙ long in
-    none_stops v (sym (bitmask_splat w8 leb (map (λ b. (b + 221) % 256) v) 64 2 few (omega arith)) ∙ rw moved at e)
-
 -- the lemmas for `marks_of`
 pub ruleset marks = (lows_ok, marks_are, none_marked)
 

@@ -58,12 +58,6 @@ pub each_map : (P Q : ℕ → Type 0) (f : ℕ → ℕ) → ((x : ℕ) → P x �
 each_map P Q f g [] h = tt
 each_map P Q f g (x ∷ v) h = (g x h.0, each_map P Q f g v h.1)
 
--- if all items are below 64, so is the item at any index, which is zero past the end
-below_at : (v : List ℕ) (i : ℕ) → Each1 (λ x. x < 64) v → get_or v i 0 < 64
-below_at [] i h = omega arith
-below_at (x ∷ v) zero h = h.0
-below_at (x ∷ v) (suc i) h = below_at v i h.1
-
 -- The tables are the alphabet
 
 -- `value_of` is the value of a symbol
@@ -92,18 +86,6 @@ each_take zero s fits = tt
 each_take (suc n) [] fits = tt
 each_take (suc n) (b ∷ s) fits = (fits.0, each_take n s fits.1)
 
--- what the lanes compute from bytes is below 256
-value_below : (s : List ℕ) (k : ℕ) → get_or (map value_of s) k 0 < 256
-value_below [] k = omega arith
-value_below (b ∷ s) zero = omega arith
-value_below (b ∷ s) (suc k) = value_below s k
-
--- an item of a list of bytes is below 256, past its end too
-pub byte_below : (v : List ℕ) (k : ℕ) → Each1 (Fits w8) v → get_or v k 0 < 256
-byte_below [] k fits = omega arith
-byte_below (x ∷ v) zero fits = fits.0.fits
-byte_below (x ∷ v) (suc k) fits = byte_below v k fits.1
-
 -- Bytes that are not symbols
 
 -- two functions that agree below 256 give the same list for bytes
@@ -131,14 +113,6 @@ is_other b = not (is_symbol b)
 -- the mask of the bytes that are no symbols
 abbrev pub others_mask : List ℕ → ℕ
 others_mask v = mask_l (map is_other v)
-
--- if the mask is a multiple of 2 ^ k, the first k bytes are symbols
-pub front_of_mask : (k : ℕ) (v : List ℕ) {mask : ℕ} → mask ≡ others_mask v → mask % 2 ^ k ≡ 0
-    → list_all is_symbol (take k v) ≡ true
-front_of_mask zero v is e = refl
-front_of_mask (suc k) [] is e = refl
-front_of_mask (suc k) (x ∷ v) is e =
-    grind (arith, front_of_mask k v {mask = others_mask v} refl, mod-pow-add (others_mask (x ∷ v)) k 1)
 
 -- the mask of the items that do not pass a test is zero exactly if all pass
 pub mask_zero : (p : ℕ → Bool) (v : List ℕ) → eqb (mask_l (map (λ b. not (p b)) v)) 0 ≡ list_all p v

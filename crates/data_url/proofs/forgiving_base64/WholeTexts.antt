@@ -1,18 +1,16 @@
 -- A whole text, fed and finished. For `decode_whole` and `decode_to_vec`.
 use Rattle.std.proofs.Common.{Err, refl, ap, sym, ◌∙◌, subst, inl, inr, arith, append_assoc, length-append, MatchBool}
-use Rattle.std.{proofs.Common.{MatchOption, append-nil}, proofs.lemmas.Bool.{cases_Bool}, specs.Result.{result_err}}
-use Rattle.std.proofs.Common.{◌≡◌, ◌⊎◌, ℕ, Bool, true, false, cond, List, [], ◌∷◌, ◌++◌, Option, None, Some, Result, Ok}
-use Rattle.std.specs.Option.{option_or}
+use Rattle.std.{proofs.Common.{MatchOption, append-nil}, proofs.lemmas.Bool.{cases_Bool}}
+use Rattle.std.proofs.Common.{◌≡◌, ◌⊎◌, ℕ, Bool, true, false, cond, List, [], ◌++◌, Option, None, Some, Result, Ok}
 use Rattle.data_url.specs.Base64.{decoded, complete_bytes, is_valid, kind_of, left_padding, left_symbols, left_text}
 use Rattle.data_url.specs.Decoder.{Feeds, Finishes, IsTaken, State, left_over, start}
 use Rattle.data_url.specs.{Errors.{IsRefused}, Laws.{GoesOn}, declared.forgiving_base64.DecodeError.{DecodeError}}
-use Rattle.data_url.specs.Run.{Call, IsPrefix, IsRun, joined_pieces, refusal}
+use Rattle.data_url.specs.Run.{IsPrefix, joined_pieces, refusal}
 use Rattle.data_url.specs.{Steps.Whole.{DecodesText}, declared.forgiving_base64.DecodeError.TheVariants.{InvalidBase64}}
 use Rattle.data_url.proofs.{forgiving_base64.Groups.{two_feeds}, runs.Runs.{prefix_trans, refusal-append, run-append}}
 use Rattle.data_url.proofs.forgiving_base64.Padding.{fault_byte, fault_invalid, none_fault, valid_no_fault}
-use Rattle.data_url.proofs.forgiving_base64.Padding.{some_not_none}
 use Rattle.data_url.proofs.forgiving_base64.Steps.{bool_at_false, bool_at_true, feeds_none, feeds_goes_on, feeds_took}
-use Rattle.data_url.proofs.runs.Runs.{joined_pieces-append, later_none, match_at, match_map, match_none, prefix_all}
+use Rattle.data_url.proofs.runs.Runs.{joined_pieces-append, match_at, match_map, match_none, prefix_all, run_keeps, run_reads}
 
 -- `MatchBool b P Q` gives that b is true, with P, or that b is false, with Q
 split_bool : (b : Bool) (P Q : Type 0) → MatchBool b P Q → ((b ≡ true) × P) ⊎ ((b ≡ false) × Q)
@@ -115,36 +113,11 @@ module _ {F E : Type 0} (step : F → List ℕ → Result (Unit {0}) E → F →
 
 -- A closure that appends its bytes
 
--- if neither a call nor those after it returned an error, the call returned `Ok`
-accepted_call : {E : Type 0} (r : Result (Unit {0}) E) (o : Option E) → option_or (result_err r) o ≡ None → r ≡ Ok tt
-accepted_call (Ok tt) o h = refl
-accepted_call (Err e) o h = absurd (some_not_none e h)
-
--- after a run without an error, all bytes of the run are appended to it
-pub run_reads : {F E : Type 0} (step : F → List ℕ → Result (Unit {0}) E → F → Type 0) (J : F → List ℕ)
-    → ((g : F) (piece : List ℕ) (g' : F) → step g piece (Ok tt) g' → J g' ≡ J g ++ piece)
-    → (cs : List (Call F E)) (f f' : F) → IsRun step f cs f' → refusal cs ≡ None → J f' ≡ J f ++ joined_pieces cs
-run_reads step J keeps [] f f' ran n = ap J (sym ran) ∙ sym (append-nil (J f))
-run_reads step J keeps (c ∷ cs) f f' ran n =
-    grind (
-      arith,
-      run_reads step J keeps cs c.after f' ran.2 (later_none c.answer (refusal cs) n),
-      accepted_call,
-      append_assoc,
-    )
-
 -- what a closure that appends its bytes holds after a text was decoded
 pub decodes_reads : {F E : Type 0} {step : F → List ℕ → Result (Unit {0}) E → F → Type 0} {f f' : F} {u : List ℕ}
     {r : Result (Unit {0}) (DecodeError E)} → DecodesText step f u r f' → r ≡ Ok tt → (J : F → List ℕ)
     → ((g : F) (piece : List ℕ) (g' : F) → step g piece (Ok tt) g' → J g' ≡ J g ++ piece) → J f' ≡ J f ++ decoded u
 decodes_reads {F} {E} {step} {f} {f'} {u} {r} h q J keeps = grind (arith, run_reads)
-
--- what each call preserves, a run preserves
-pub run_keeps : {F E A : Type 0} (step : F → List ℕ → Result (Unit {0}) E → F → Type 0) (K : F → A)
-    → ((g : F) (piece : List ℕ) (r : Result (Unit {0}) E) (g' : F) → step g piece r g' → K g ≡ K g')
-    → (cs : List (Call F E)) (f f' : F) → IsRun step f cs f' → K f ≡ K f'
-run_keeps step K keeps [] f f' ran = ap K ran
-run_keeps step K keeps (c ∷ cs) f f' ran = grind (arith, run_keeps step K keeps cs c.after f' ran.2)
 
 -- what each call preserves, decoding a text preserves
 pub decodes_keeps : {F E A : Type 0} {step : F → List ℕ → Result (Unit {0}) E → F → Type 0} {f f' : F} {u : List ℕ}

@@ -53,12 +53,6 @@ right : (eight : ℕ) → eight < 256 → is_right eight ≡ true
 unfolding count_ones
 right eight l = agree_below_at is_right (λ b. true) 256 eight refl l
 
--- eight bits have at most eight that are set
-pub ones_few : (eight : ℕ) → eight < 256 → count_ones eight ≤ 8
-ones_few eight l =
-    let p = and_parts _ _ (right eight l) in
-    let q = and_parts _ _ p.1 in omega (arith, ltb-true (count_ones eight) 9 q.0)
-
 -- the places of the bits that are 0
 pub places_are : (eight : ℕ) → eight < 256
     → take (8 - count_ones eight) (take 16 (drop (8 * eight) PLACES)) ≡ clear (range_with_len 0 8) eight

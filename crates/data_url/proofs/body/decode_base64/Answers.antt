@@ -1,7 +1,7 @@
 use Rattle.std.{proofs.Common.{◌≡◌, Err, Ok, false, rules, MatchResult}, specs.Fn.{CalledAt, always_mut}}
 use Rattle.data_url.specs.Decoder.{Finishes, state_of}
 use Rattle.data_url.proofs.body.Decoding.{fed_ended, fed_refused, front_fragment, front_refused, rest_preserves}
-use Rattle.data_url.proofs.{body.Decoding.{run_preserves}, forgiving_base64.WholeTexts.{run_keeps}}
+use Rattle.data_url.proofs.runs.Runs.{run_keeps, run_preserves}
 use Rattle.data_url.proofs.body.decode_base64.Goals as goal
 
 pub returns-in-Err : goal.returns-in-Err
