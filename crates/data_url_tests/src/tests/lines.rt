@@ -1,4 +1,4 @@
-//! Base64 in lines. A decoder is fed the first line, and then stretches of some 4,000 bytes, with their newlines.
+//! Base64 of a URL, clean and in lines. It is decoded where it is up to the first `#` or `%`, with its newlines.
 
 use super::recorder::Source;
 use super::urls::{assert_body, assert_whole_body};
@@ -42,10 +42,12 @@ pub fn part_of(text: &str, start: usize, end: usize) -> &str {
     text.get(start..end).unwrap_or("")
 }
 
-/// Returns how many bytes the whole groups before a place in lines of 76 symbols encode.
-fn bytes_before(place: usize) -> usize {
-    let symbols = place.saturating_sub(place / 77);
-    (symbols / 4).saturating_mul(3)
+/// Returns how many bytes the whole groups before a place in lines of 76 symbols encode, or in a text without newlines.
+fn bytes_before(symbols: &str, place: usize) -> usize {
+    let newlines = part_of(symbols, 0, place)
+        .bytes()
+        .filter(|byte| *byte == b'\n');
+    (place.saturating_sub(newlines.count()) / 4).saturating_mul(3)
 }
 
 /// Asserts the body of a URL of lines with a part at a place.
@@ -65,7 +67,7 @@ fn assert_part(
     let end = if message.is_empty() {
         bytes.len()
     } else {
-        bytes_before(place)
+        bytes_before(symbols, place)
     };
     let body = part_of(bytes, 0, end).as_bytes();
     assert_whole_body(rt, alloc, text.as_str(), &url, body, message)?;
@@ -94,20 +96,50 @@ fn assert_escape(
     Ok(())
 }
 
-/// Asserts the body of a URL of this many lines with each part, and with each byte as an escape, at each of these places.
+/// Asserts the body of the symbols before a place, and the fragment after it. If a symbol is alone before it, the body is not valid.
+fn assert_fragment(
+    rt: &impl Abort,
+    alloc: Global,
+    lines: [&str; 2],
+    place: usize,
+) -> Result<(), Fail> {
+    let [symbols, bytes] = lines;
+    let front = part_of(symbols, 0, place);
+    let text = format!(in alloc; "data:;base64,{front}#c d")?;
+    let url = DataUrl::process(alloc, text.as_str())?;
+    let newlines = front.bytes().filter(|byte| *byte == b'\n').count();
+    let alone = place.saturating_sub(newlines) % 4;
+    let answer = if alone == 1 {
+        "base64 not valid: lone alphabet symbol present"
+    } else {
+        "#c%20d"
+    };
+    let more = alone.saturating_sub(1);
+    let end = bytes_before(symbols, place).saturating_add(more);
+    let body = part_of(bytes, 0, end).as_bytes();
+    assert_whole_body(rt, alloc, text.as_str(), &url, body, answer)?;
+    let record = Source::Body(&url).record_both(rt, alloc, text.as_str(), 0)?;
+    record.assert_is(rt, text.as_str(), body, answer);
+    Ok(())
+}
+
+/// Asserts the body of a URL of this many lines with each part, with each byte as an escape, and with a fragment, at each of these
+/// places.
 fn assert_places(
     rt: &impl Abort,
     alloc: Global,
+    line: [&str; 2],
     count: usize,
-    first: usize,
-    last: usize,
+    places: [usize; 2],
 ) -> Result<(), Fail> {
-    let [line, bytes] = LINE;
+    let [line, bytes] = line;
     let symbols = line.repeat(alloc, count)?;
     let bytes = bytes.repeat(alloc, count)?;
     let lines = [symbols.as_str(), bytes.as_str()];
+    let [first, last] = places;
     for place in first..last {
         assert_escape(rt, alloc, lines, place)?;
+        assert_fragment(rt, alloc, lines, place)?;
         for row in PARTS.as_slice() {
             assert_part(rt, alloc, lines, place, *row)?;
         }
@@ -117,12 +149,19 @@ fn assert_places(
 
 #[test]
 fn lines_with_each_part_at_each_place(rt: HostRuntime) -> Result<(), Fail> {
-    assert_places(&rt, rt.alloc(), 4, 32, 306)
+    assert_places(&rt, rt.alloc(), LINE, 4, [32, 306])
 }
 
 #[test]
 fn long_lines_with_each_part_around_the_end_of_a_stretch(rt: HostRuntime) -> Result<(), Fail> {
-    assert_places(&rt, rt.alloc(), 60, 4160, 4240)
+    assert_places(&rt, rt.alloc(), LINE, 60, [4160, 4240])
+}
+
+#[test]
+fn clean_text_with_each_part_at_each_place(rt: HostRuntime) -> Result<(), Fail> {
+    let [line, bytes] = LINE;
+    let clean = part_of(line, 0, 76);
+    assert_places(&rt, rt.alloc(), [clean, bytes], 3, [1, 227])
 }
 
 #[test]
