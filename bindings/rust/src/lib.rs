@@ -199,6 +199,9 @@ impl<'a> DataUrl<'a> {
     /// The body's status, and the bytes that come before a fault.
     fn body(&self) -> (u32, Vec<u8>) {
         let tail = self.encoded_body_plus_fragment;
+        if tail.is_empty() {
+            return (library::DONE, Vec::new());
+        }
         if tail.len() >= LONG {
             return library::body(self.input, tail.len());
         }
