@@ -36,7 +36,7 @@ fingerprint_is t last a b c fits l e f g = cc (
 )
 
 -- a row has sixteen bytes
-row_len : (bytes : List ℕ) (at : ℕ) → at + 16 ≤ length bytes → length (take 16 (drop at bytes)) ≡ 16
+pub row_len : (bytes : List ℕ) (at : ℕ) → at + 16 ≤ length bytes → length (take 16 (drop at bytes)) ≡ 16
 row_len bytes at l = length-take-le 16 (drop at bytes) (omega (arith, length-drop {A = ℕ}))
 
 module _ (bytes : List ℕ) (at b : ℕ) {bits : ℕ} (l : at + 16 ≤ length bytes)

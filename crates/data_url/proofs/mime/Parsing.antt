@@ -17,7 +17,7 @@ use Rattle.data_url.specs.Steps.Parsing.{item_in, named, pair_if, reading, readi
 use Rattle.data_url.specs.Steps.Parsing.{quotable_value, unescaped, HasNoHead, IsTokens, Reading, after_mark, in_name}
 use Rattle.data_url.proofs.{examples.Literals.{on_literals}, texts.CodePoints.{same_empty, trimmed_end_is, cut_by}}
 use Rattle.data_url.proofs.{mime.Items.{after_slash, has_parts, trimmed_of}, runs.Runs.{match_map}}
-use Rattle.data_url.proofs.mime.TokenTexts.{values_steady, whole_front, spaces_end, spaces_steady, names_steady}
+use Rattle.data_url.proofs.mime.TokenTexts.{values_steady, whole_front, spaces_end, spaces_steady, names_steady, tokens}
 use Rattle.data_url.proofs.texts.CodePoints.{IsCutInto, IsSteady, cut_front, front_further, front_passes, no_chars}
 use lib.Utf8.{encode}
 
@@ -250,7 +250,7 @@ plain_head_is s t b e = record {
 pub ruleset marks = (encodes-chars, match_map, has_mark, no_mark)
 
 -- the lemmas for `cuts.rt`
-pub ruleset cuts = (marks, cut_front, spaces_end, spaces_steady, values_steady, suffix_len-le-length, length-take-le)
+pub ruleset cuts = (marks, tokens, spaces_end, spaces_steady, values_steady, suffix_len-le-length, length-take-le)
 
 -- the lemmas for `read_head`
 pub ruleset heads = (same_empty, begins_empty, begins_mark, is_head, no_parameters, no_slash, no_subtype, no_type)

@@ -65,9 +65,9 @@ pub quoted_value_text : (v : List ℕ) (b : Bool) → b ≡ is_token_text (chars
 quoted_value_text v b e h = grind (arith, encode_ascii, encodes-append)
 
 -- ';', the name, '=', and the printed value are the UTF-8 of the printed pair
-pub parameter_text : (name value : List ℕ) → IsUtf8 name → (((59 ∷ []) ++ name) ++ (61 ∷ []))
-    ++ encode_utf8_all (printed_value (chars value)) ≡ encode_utf8_all (printed_pair (chars name, chars value))
-parameter_text name value u = grind (arith, encode_ascii, append_assoc, encodes-chars, encodes-append)
+pub parameter_text : (name value text : List ℕ) → IsUtf8 name → text ≡ encode_utf8_all (printed_value (chars value))
+    → (((59 ∷ []) ++ name) ++ (61 ∷ [])) ++ text ≡ encode_utf8_all (printed_pair (chars name, chars value))
+parameter_text name value text u e = grind (arith, encode_ascii, append_assoc, encodes-chars, encodes-append)
 
 -- the bytes of a `String` are the UTF-8 of its code points
 pub text_bytes : {A : Type 0} (s : String A) → string_bytes s ≡ encode_utf8_all (code_points s)

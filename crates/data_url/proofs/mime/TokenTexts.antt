@@ -1,4 +1,4 @@
--- Texts of token code points, and quoted strings. For `tokens.rt`, `values.rt` and `split_quote`.
+-- Texts of token code points, and quoted strings. For `cuts.rt`, `values.rt` and `split_quote`.
 use Rattle.std.proofs.Common.{append_assoc, append-nil, eqb-true, inl, inr, zero, suc, get_or, encode_utf8_all}
 use Rattle.std.{proofs.Common.{drop-drop, ◌||◌, ◌⊎◌, ◌≢◌}, proofs.lemmas.List.{take_rest}}
 use Rattle.std.proofs.lemmas.Bool.{agree_below_at, and_parts, and_from, cases_lt, eqb-false}
@@ -113,7 +113,7 @@ module _ (bs : List ℕ) (n : ℕ) (u : IsUtf8 bs) (e : n ≡ prefix_len is_toke
         token = cc (chars-IsAscii (take n bs) (token_text_ascii (take n bs) token));
       }
 
--- the lemmas for `tokens.rt`
+-- the lemmas for texts of token code points
 pub ruleset tokens = (tokens_steady, cut_front, chars-nil, token_text_by, some_tokens)
 
 -- a token code point does not end a name

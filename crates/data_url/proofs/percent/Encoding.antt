@@ -9,6 +9,8 @@ use Rattle.std.{proofs.lemmas.Bool.{both_ways, ne_eqb, ltb-true, not-true}, spec
 use Rattle.std.{proofs.lemmas.Grind.{flat_map-append}, proofs.lemmas.Str.Ascii.{IsAscii-nil}}
 use Rattle.std.{proofs.lemmas.List.{nil_from_length, take_more}, proofs.lemmas.Str.{IsAscii-append, IsUtf8-from_ascii}}
 use Rattle.std.{specs.List.{AllByRecursion, list_all}, specs.Str.{bytes_eq, IsAscii, IsUtf8}}
+use Rattle.std.proofs.lemmas.Slice.{take-put_mid}
+use borrow.Rule.Slice.PartMut.{mid_of, put_mid, same_len_mid}
 use Rattle.data_url.specs.{Percent.{percent_decoding}, declared.percent.EncodeSet.TheVariants.{Fragment, Path, Query}}
 use Rattle.data_url.specs.{Steps.Header.{header_parts, header_text}, Steps.Sets.{IsEntry, byte_encoding, in_set}}
 use Rattle.data_url.specs.Url.{in_path_end_set, percent_encoding, serialised, with_query, without_tabs_and_newlines}
@@ -315,20 +317,22 @@ pub record PutTo (p : ℕ → Bool) (s : List ℕ) (i : ℕ) (room : List ℕ) (
   pub wrote : take at room ≡ encoded p (take i s)
 
 -- if the row of byte i is put after them, so are the bytes before byte i + 1
-pub put_more : (p : ℕ → Bool) (s : List ℕ) (i : ℕ) (room : List ℕ) (at : ℕ) (row room' : List ℕ) → PutTo p s i room at
-    → i < length s → at ≤ 512 → IsEntry p (get_or s i 0) row → length room' ≡ 512
-    → take (at + 4) room' ≡ take at room ++ row → PutTo p s (i + 1) room' (at + slice_index row 3)
-put_more p s i room at row room' m l within r n h =
+pub put_more : (p : ℕ → Bool) (s : List ℕ) (i : ℕ) (room : List ℕ) (at : ℕ) (row new : List ℕ) → PutTo p s i room at
+    → i < length s → at ≤ 512 → IsEntry p (get_or s i 0) row → length new ≡ length (mid_of at (at + 4 - at) room)
+    → new ≡ row → PutTo p s (i + 1) (put_mid at (at + 4 - at) room new) (at + slice_index row 3)
+put_more p s i room at row new m l within r n e =
     let width = slice_index row 3 in
+    let room' = put_mid at (at + 4 - at) room new in
     let short : width ≤ 3 = grind arith in
     let one : encoded p (get_or s i 0 ∷ []) ≡ byte_encoding p (get_or s i 0) =
     grind (arith, written_first, encoded_empty, append-nil) in
     let len = length-take-le at room (omega (arith, m.long)) in
     let more = take_more s i 0 l in
     let all = encoded-append p (take i s) (get_or s i 0 ∷ []) in
+    let put = take-put_mid at (at + 4 - at) room new (at + 4) (omega (arith, ap length e, r.four)) (omega (arith, m.long)) in
     let front = take-take (at + width) (at + 4) room' (omega arith) in
     let seam = take-append-add (take at room) row width in
-    record { few = omega (arith, m.few); long = n; wrote = cc }
+    record { few = omega (arith, m.few); long = same_len_mid at (at + 4 - at) room new n ∙ m.long; wrote = cc }
 
 -- a text whose bytes are all below 128 is ASCII
 pub ascii_all : (s : List ℕ) → list_all (λ c. nat_lt c 128) s ≡ true → IsAscii s

@@ -10,7 +10,7 @@ use Rattle.std.{proofs.lemmas.List.{take_rest}, specs.Char.{to_ascii_lowercase},
 use Rattle.std.{proofs.lemmas.Slice.Eq.{bytes_eq-Decides, starts_is}, specs.List.{starts_with, prefix_len}}
 use Rattle.std.proofs.lemmas.Str.{IsCharBoundary-after_ascii, IsCharBoundary-from_take, IsUtf8-from_ascii}
 use Rattle.data_url.specs.Mime.{Every}
-use Rattle.data_url.specs.Steps.Split.{HasNoScheme, IsSchemeAndRest, IsHeaderAndTail, ends_header, is_plain_path}
+use Rattle.data_url.specs.Steps.Split.{HasNoScheme, IsSchemeAndRest, IsHeaderAndTail, in_header, is_plain_path}
 use Rattle.data_url.specs.{Steps.Header.{header_text}, Url.{without_tabs_and_newlines, is_tab_or_newline, after, front}}
 use Rattle.data_url.proofs.{percent.Encoding.{kept_whole, ascii_all, Plain}, texts.Bytes.{before_at, after_none}}
 use Rattle.data_url.proofs.texts.Bytes.{after_nil, after_other, after-dropped_none, without_tabs_and_newlines-append}
@@ -114,10 +114,6 @@ pub record IsHeaderEnd (s : List ℕ) (n : ℕ) : Type 0 where
   pub no_comma : after 44 (take n s) ≡ None
   pub no_hash : after 35 (take n s) ≡ None
 
--- neither ',' nor '#'
-abbrev in_header : ℕ → Bool
-in_header b = not (ends_header b)
-
 -- the first ',' or '#' of a text comes after the plain bytes at its front
 further_on : (s items : List ℕ) (n : ℕ) → items ≡ s → n ≡ prefix_len is_plain_path items
     → prefix_len in_header s ≡ n + prefix_len in_header (drop n s)
@@ -138,23 +134,24 @@ pub at_hash : (s : List ℕ) (n : ℕ) → IsHeaderEnd s n → get_or s n 0 ≡ 
 unfolding front
 at_hash s n f h = cc (cut_at s n f.within, before_at 35 (take n s) (drop (n + 1) s) f.no_hash)
 
--- if the first ',' or '#' after the n plain bytes at the front is at index k of the bytes after them, the first one of
--- the text is at n + k
-pub header_end_at : (s items : List ℕ) (n k : ℕ) (r : Option ℕ) → items ≡ s → n ≡ prefix_len is_plain_path items
-    → r ≡ position ends_header (take (length items - n) (drop n items)) → r ≡ Some k → IsHeaderEnd s (n + k)
-header_end_at s items n k r e f q g =
-    let more = further_on s items n e f in
-    let lacks = no_end (take (prefix_len in_header s) s) (front_passes in_header s) in
-    grind (arith, take_rest, length-drop, prefix_len_stops in_header s 0, eqb-true)
+module _ (s items : List ℕ) (n k : ℕ) (e : items ≡ s) (f : n ≡ prefix_len is_plain_path items)
+    (g : k ≡ prefix_len in_header (take (length items - n) (drop n items))) where
+  -- the first ',' or '#' of the text, if there is one, is k bytes after the n plain bytes at the front
+  end_at : n + k ≡ prefix_len in_header s
+  end_at = grind (arith, take_rest, further_on s items n e f)
 
--- if there is no ',' or '#' after the plain bytes at the front, there is no ',' before the first '#' of the text
-pub no_header_end : (s items : List ℕ) (n : ℕ) (r : Option ℕ) → items ≡ s → n ≡ prefix_len is_plain_path items
-    → r ≡ position ends_header (take (length items - n) (drop n items)) → r ≡ None → after 44 (front s) ≡ None
-unfolding front
-no_header_end s items n r e f q g =
-    let more = further_on s items n e f in
-    let lacks = no_end (take (prefix_len in_header s) s) (front_passes in_header s) in
-    grind (arith, take_rest, length-drop, take_all, before_all)
+  -- if the text has so many bytes, the first ',' or '#' is at n + k
+  pub header_end_at : n + k ≢ length s → IsHeaderEnd s (n + k)
+  header_end_at ne =
+      let lacks = no_end (take (prefix_len in_header s) s) (front_passes in_header s) in
+      grind (arith, end_at, prefix_len-le-length in_header s, prefix_len_stops in_header s 0, eqb-true)
+
+  -- otherwise, there is no ',' before the first '#' of the text
+  pub no_header_end : n + k ≡ length s → after 44 (front s) ≡ None
+  unfolding front
+  no_header_end ends =
+      let lacks = no_end (take (prefix_len in_header s) s) (front_passes in_header s) in
+      grind (arith, end_at, take_all, before_all)
 
 -- if the ',' follows directly after the plain bytes at the front, the header is serialised as it is
 pub plain_before : (s items header : List ℕ) (n k : ℕ) → items ≡ s → n ≡ prefix_len is_plain_path items

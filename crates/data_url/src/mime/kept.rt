@@ -45,7 +45,8 @@ impl KeptParameters {
         let fingerprint = fingerprint(name);
         let mut at = 0;
         while at < len {
-            let bits = alike(fingerprint, row(&self.fingerprints, at));
+            let row = row(&self.fingerprints, at);
+            let bits = row.simd_eq(u8x16::splat(fingerprint)).to_bitmask();
             if self.is_in_row(name, at, bits) {
                 return true;
             }
@@ -116,12 +117,4 @@ fn fingerprint(name: &str) -> u8
     let hundreds = u32::from(bytes[last.saturating_sub(2)] | CASE);
     let sum = ones + 10 * tens + 100 * hundreds;
     (sum % 256) as u8
-}
-
-/// Returns a bit for each fingerprint of a row, which is set where it is this one.
-#[inline(always)]
-fn alike(fingerprint: u8, row: u8x16) -> u64
-    ensures { result ≡ mask_l (map (λ b. b == fingerprint) row) }
-{
-    row.simd_eq(u8x16::splat(fingerprint)).to_bitmask()
 }

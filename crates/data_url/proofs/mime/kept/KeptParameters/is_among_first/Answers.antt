@@ -1,14 +1,17 @@
 use Rattle.std.proofs.Common.{arith, ap, drop, map, refl, sym, take, take_all, ◌==◌, ◌∙◌}
+use Rattle.std.proofs.{Common.{eqb, w8}, lemmas.Simd.{bitmask_splat}}
 use Rattle.std.specs.Char.{to_ascii_lowercase}
 use Rattle.std.specs.{Simd.Lanes.{mask_l}, Str.{chars}}
 use Rattle.data_url.specs.{Mime.{has_name}, Steps.Kept.{first_of, pairs_of}}
+use Rattle.data_url.proofs.mime.Fingerprints.{row_len}
 use Rattle.data_url.proofs.mime.FirstNames.{first_len, row_further, row_named}
 use Rattle.data_url.proofs.mime.kept.KeptParameters.is_among_first.Goals as goal
 
 pub is_in_row-requires-clause-bits : goal.is_in_row-requires-clause-bits
 is_in_row-requires-clause-bits c =
     let row = take 16 (drop c.loop-at.at c.args.self.now.fingerprints) in
-    c.alike-bits.ensures ∙ ap (λ v. mask_l (map (λ b. b == c.fingerprint-fingerprint.result) v)) c.row.ensures
+    bitmask_splat w8 eqb c.row-row.result 16 c.fingerprint-fingerprint.result (grind (arith, row_len)) (omega arith)
+    ∙ ap (λ v. mask_l (map (λ b. b == c.fingerprint-fingerprint.result) v)) c.row-row.ensures
     ∙ ap (λ f. mask_l (map (λ b. b == f) row)) c.fingerprint-fingerprint.ensures
 
 pub returns-then-is_in_row : goal.returns-then-is_in_row
