@@ -64,8 +64,7 @@ sel_from p i (suc q) (x ∷ xs) (y ∷ ys) e l = grind (arith, sel_from p (suc i
 -- the first items of a row, and then those of another one
 pub sel_before : (xs ys : List ℕ) (p : ℕ) → length xs ≡ 16 → length ys ≡ 16 → p ≤ 16
     → sel_l (are_before p 0 16) xs ys ≡ take p xs ++ drop p ys
-sel_before xs ys p e h l =
-    let s = sel_from p 0 p xs ys (e ∙ sym h) (omega arith) in rw e at s
+sel_before xs ys p e h l = grind (arith, sel_from p 0 p xs ys (e ∙ sym h) (omega arith))
 
 -- the last items of a row and then zeros
 
@@ -137,9 +136,7 @@ module _ (others bytes : List ℕ) (at : ℕ) {row : List ℕ} {b : Bool} (h : L
     (r : row ≡ take 16 (drop at bytes)) (e : b ≡ list_all (λ x. not (is_marked others x)) row) where
   -- so is the mask of a row
   row_mask : (mask_l (map (is_marked others) (take 16 (drop at bytes))) == 0) ≡ b
-  row_mask = mask_zero (is_marked others) (take 16 (drop at bytes)) ∙ ap (list_all (λ x. not (is_marked others x)))
-      (sym r)
-      ∙ sym e
+  row_mask = grind (arith, mask_zero)
 
   -- if a row has no marked byte, the bytes before the end of the row are of the class, too
   pub one_row_more : b ≡ true → Looked others bytes (at + 16)

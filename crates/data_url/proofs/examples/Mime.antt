@@ -96,23 +96,7 @@ reads_x r pairs begins ends are =
 -- each of the texts of type and subtype x has its parameters
 x_records : AllRead x_texts
 unfolding on_literals
-x_records =
-    let x = λ (r : List ℕ) (pairs : List Pair). reads_x r pairs in (
-      x _ _ refl refl refl,
-      (
-        x _ _ refl refl refl,
-        (
-          x _ _ refl refl refl,
-          (
-            x _ _ refl refl refl,
-            (
-              x _ _ refl refl refl,
-              (x _ _ refl refl refl, (x _ _ refl refl refl, (x _ _ refl refl refl, tt))),
-            ),
-          ),
-        ),
-      ),
-    )
+x_records = grind (arith, reads_x)
 
 -- Texts without a record
 
@@ -130,9 +114,7 @@ no_subtype s e m h = grind (arith, h.head.is_subtype, has_parts s h.type_ h.subt
 no_parameters : (s : List ℕ) (r : List ℕ) → parameters_in (trimmed_of is_http_whitespace s) ≡ r
     → (BeginsParameters r → ⊥) → HasNoRecord s
 unfolding on_literals
-no_parameters s r e n m h =
-    n (subst BeginsParameters (sym (has_parts s h.type_ h.subtype h.parameters h.head).parameters_are
-    ∙ e) h.head.begins)
+no_parameters s r e n m h = grind (arith, has_parts s h.type_ h.subtype h.parameters h.head)
 
 -- the empty text has no record
 pub empty_text : HasNoRecord []

@@ -75,9 +75,7 @@ flag_by flag header n q e d h k =
 stripped_end : (y q : List ℕ) (b : ℕ) → (b == 32) ≡ false → suffix_len is_space q ≡ 0
     → stripped_header (y ++ b ∷ q) ≡ without_start is_space y ++ b ∷ q
 unfolding stripped_header
-stripped_end y q b e f =
-    let stops = suffix_stop is_space (without_start is_space y) q b e in
-    grind (arith, prefix_len-append, prefix_len-le-length, drop-append-le, take_all)
+stripped_end y q b e f = grind (arith, suffix_stop, prefix_len-append, prefix_len-le-length, drop-append-le, take_all)
 
 -- a text that ends with ';' and "base64", in any ASCII case, has a base64 suffix
 suffix_there : (z w : List ℕ) → map to_ascii_lowercase w ≡ word → before_base64 (z ++ 59 ∷ w) ≡ Some z

@@ -223,14 +223,11 @@ plain_added (c ∷ s) p h = grind (arith, chars_printable (c ∷ s) p)
 pub suffix_is : (header s : List ℕ) (o : Option (List ℕ)) (m : Record) → IsPrintable header → s ≡ trimmed_text header
     → o ≡ before_base64 s → IsRecordFor (with_plain (unwrap_or o s)) m → IsHeaderOf header m (is_some o)
 unfolding mime_text media_of has_base64_suffix
-suffix_is header s o m p e f h =
-    let t = trimmed_is_stripped header p in
-    record { record_is = rw (← t, ← e, ← f) h; base64_is = cc }
+suffix_is header s o m p e f h = grind (arith, trimmed_is_stripped header p)
 
 -- the record of the parts of a text is the record for it
 pub parts_for : {s x a b c : List ℕ} (m : Record) → s ≡ x → IsHead s a b c → IsRecordOfParts a b c m → IsRecordFor x m
-parts_for {s} {x} {a} {b} {c} m e h p =
-    record { is_record = inl (rw (← e) (parses_parts s a b c m h p)); wellformed = head_wellformed h p }
+parts_for {s} {x} {a} {b} {c} m e h p = grind (arith, parses_parts s a b c m h p, head_wellformed h p)
 
 -- a text with ';' at index 0 begins with ';'
 pub begins_at : (s : List ℕ) → get_or s 0 0 ≡ 59 → BeginsParameters s

@@ -67,9 +67,7 @@ pub record Unescaping (bytes value : List ℕ) (at len : ℕ) : Type 0 where
 -- at the end, the bytes are the value of the text
 pub unescapes_all : {bytes value bs : List ℕ} {at len : ℕ} (v : List ℕ) → Unescaping bytes value at len
     → length bytes ≤ at → v ≡ take len value → bytes ≡ bs → v ≡ unescaped false bs
-unescapes_all {bytes} {value} {bs} {at} {len} v h l e f =
-    let none : drop at bytes ≡ [] = drop_of_length-le bytes {i = at} l in
-    cc (h.value_is, append-nil (take len value))
+unescapes_all {bytes} {value} {bs} {at} {len} v h l e f = grind (arith, drop_of_length-le, append-nil)
 
 -- bytes that are not ASCII stand for themselves
 others_stay : (bs r : List ℕ) → Every (λ b. nat_le 128 b) bs → unescaped false (bs ++ r) ≡ bs ++ unescaped false r
@@ -89,8 +87,7 @@ unfolding encode
 unescaped_encodes false [] = refl
 unescaped_encodes true [] = refl
 unescaped_encodes true (c ∷ cs) = grind (arith, unescaped_char, encode_utf8_all, unescaped_encodes false cs)
-unescaped_encodes false (c ∷ cs) =
-    grind (arith, unescaped_char, encode_utf8_all, unescaped_encodes false cs, unescaped_encodes true cs)
+unescaped_encodes false (c ∷ cs) = grind (arith, unescaped_char, unescaped_encodes false cs, unescaped_encodes true cs)
 
 -- the code points of a value are scalar values
 unescaped_scalars : (e : Bool) (cs : List ℕ) → scalars cs ≡ true → scalars (unescaped e cs) ≡ true
@@ -106,13 +103,11 @@ module _ {bs v : List ℕ} (u : IsUtf8 bs) (e : v ≡ unescaped false bs) where
 
   -- they are UTF-8
   pub value_utf8 : IsUtf8 v
-  value_utf8 =
-      (unescaped false (chars bs), (unescaped_scalars false (chars bs) (scalars-chars bs u), value_encodes))
+  value_utf8 = grind (arith, unescaped_scalars, scalars-chars, value_encodes)
 
   -- and spell this value
   pub value_chars : chars v ≡ unescaped false (chars bs)
-  value_chars = ap chars (sym value_encodes)
-      ∙ chars-encodes (unescaped false (chars bs)) (unescaped_scalars false (chars bs) (scalars-chars bs u))
+  value_chars = grind (arith, value_encodes, chars-encodes, unescaped_scalars, scalars-chars)
 
 -- a code point other than '"' and '\' comes before the closing quote
 first_quoted : (c : ℕ) (s : List ℕ) → plain c ≡ true → quoted_len false (c ∷ s) ≡ suc (quoted_len false s)
@@ -137,20 +132,7 @@ quoting_from : (bytes : List ℕ) (from m place : ℕ) → from ≤ length bytes
     → from + quoted_len false (drop from bytes) ≡ quoted_len false bytes → m ≡ prefix_len plain (drop from bytes)
     → place ≡ from + m → Quoting bytes place
 quoting_from bytes from m place l h f e =
-    let rest = drop from bytes in
-    let few = prefix_len-le-length plain rest in
-    let long = length-drop from bytes in
-    let stops : m < length rest → plain (slice_index rest m) ≡ false =
-    λ k. rw f (prefix_len_stops plain rest 0 (omega arith)) in
-    let at : slice_index rest m ≡ slice_index bytes place =
-    get_or-drop from bytes m 0 ∙ ap (slice_index bytes) (sym e) in
-    let joined : m + quoted_len false (drop m rest) ≡ quoted_len false rest = rw f (plain_quoted rest) in
-    let on : drop m rest ≡ drop place bytes = drop-drop m from bytes ∙ ap (λ k. drop k bytes) (omega arith) in
-    record {
-      within = omega arith;
-      mark = λ k. not-false _ (ap plain (sym at) ∙ stops (omega arith));
-      joined = omega (arith, ap (quoted_len false) on);
-    }
+    grind (arith, prefix_len-le-length, length-drop, prefix_len_stops, get_or-drop, plain_quoted, drop-drop, not-false)
 
 -- at the start
 pub quoting_first : (bytes : List ℕ) (n : ℕ) → n ≡ prefix_len plain bytes → Quoting bytes n

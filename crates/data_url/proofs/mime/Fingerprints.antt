@@ -28,12 +28,7 @@ pub fingerprint_is : (t : List ℕ) (last a b c : ℕ) → ((k : ℕ) → slice_
     → a ≡ letter_at t last → b ≡ letter_at t (last - 1) → c ≡ letter_at t (last - 2)
     → (a + 10 * b + 100 * c) % 256 ≡ fingerprint_of (map to_ascii_lowercase t)
 unfolding fingerprint_of
-fingerprint_is t last a b c fits l e f g = cc (
-  length-map t to_ascii_lowercase,
-  letter_lower t last (fits last),
-  letter_lower t (last - 1) (fits (last - 1)),
-  letter_lower t (last - 2) (fits (last - 2)),
-)
+fingerprint_is t last a b c fits l e f g = grind (arith, length-map, letter_lower)
 
 -- a row has sixteen bytes
 pub row_len : (bytes : List ℕ) (at : ℕ) → at + 16 ≤ length bytes → length (take 16 (drop at bytes)) ≡ 16
@@ -43,10 +38,7 @@ module _ (bytes : List ℕ) (at b : ℕ) {bits : ℕ} (l : at + 16 ≤ length by
     (e : bits ≡ mask_l (map (λ c. c == b) (take 16 (drop at bytes)))) where
   -- so its bits are below 2 ^ 16
   pub bits_few : bits < 65536
-  bits_few =
-      let tests = map (λ c. c == b) (take 16 (drop at bytes)) in
-      let size : length tests ≡ 16 = length-map (take 16 (drop at bytes)) (λ c. c == b) ∙ row_len bytes at l in
-      rw e (subst (λ n. mask_l tests < 2 ^ n) size (mask_l-lt tests))
+  bits_few = grind (arith, length-map, row_len, mask_l-lt)
 
   -- where the bit of a row is not set, its byte is not b
   pub unmarked : (k : ℕ) → k < 16 → bit_at bits k ≡ 0 → slice_index bytes (at + k) ≢ b

@@ -64,9 +64,7 @@ lowercase_name t h = grind (arith, token_text_lower, bytes_eq-Decides, lower_twi
 -- the code points of a token text whose bytes are put into lower case are its code points in lower case
 pub lower_chars : (bs : List ℕ) → IsUtf8 bs → is_token_text (chars bs) ≡ true
     → chars (map to_ascii_lowercase bs) ≡ map to_ascii_lowercase (chars bs)
-lower_chars bs u h =
-    let a = token_text_ascii bs (token_text_chars bs u ∙ h) in
-    grind (arith, chars-IsAscii, IsAscii-map to_ascii_lowercase bs lowercase_ascii a)
+lower_chars bs u h = search (arith, token_text_ascii, token_text_chars, chars-IsAscii, IsAscii-map, lowercase_ascii)
 
 -- a lower-case name in lower case is the name itself
 pub lower_is_itself : (t : List ℕ) → is_lowercase_name t ≡ true → map to_ascii_lowercase t ≡ t
@@ -118,8 +116,7 @@ module _ (n : List ℕ) (pairs : List Pair) (at : ℕ) where
   -- if none before a row and none of the row has it, none before the end of the row has it
   pub row_further : has_name n (take at pairs) ≡ false → has_name n (take 16 (drop at pairs)) ≡ false
       → has_name n (take (at + 16) pairs) ≡ false
-  row_further h k = rw (take-add at 16 pairs) (list_any-append (λ (p : Pair). bytes_eq p.0 n) (take at pairs) (take 16
-      (drop at pairs)) ∙ cc)
+  row_further h k = grind (arith, take-add, list_any-append)
 
 module _ {kept : KeptParameters} {len : ℕ} (x : IsIndexed kept)
     (e : len ≡ min LOOKED_THROUGH (length kept.pairs.items)) where

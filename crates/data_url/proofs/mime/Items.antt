@@ -170,9 +170,7 @@ items_in (suc n) (c ∷ s) = item_in s ∷ items_in n (reading_in s).rest
 
 -- the text after a parameter is not longer than the text after its ';'
 pub rest_shorter : (s : List ℕ) → length (reading_in s).rest ≤ length s
-rest_shorter s =
-    let h = has_parameter s in
-    omega (arith, ap length h.joined, ap length h.is_parameter.joined, length-append h.text (reading_in s).rest)
+rest_shorter s = grind (arith, has_parameter s, length-append)
 
 -- a text of at most n code points that is empty or begins with ';' has these items
 items_below : (n : ℕ) (r : List ℕ) → length r ≤ n → BeginsParameters r → Items r (items_in n r)

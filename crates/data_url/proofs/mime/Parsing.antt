@@ -183,29 +183,17 @@ module _ {s t a x : List ℕ} (first : IsTokens t a x) (e : t ≡ trimmed_of is_
   module _ (y : List ℕ) (slash : after_mark 47 x ≡ Some y) where
     -- if the subtype is empty, there is no head
     pub no_subtype : front_of is_token y ≡ [] → HasNoHead s
-    no_subtype z a' b c h =
-        let p = has_parts s a' b c h in
-        absurd (token_not_nil b h.is_subtype (cc (p.subtype_is, slash_is first y slash)))
+    no_subtype z a' b c h = grind (arith, has_parts s a' b c h, token_not_nil, slash_is first y slash)
 
     module _ {b z : List ℕ} (bs : List ℕ) (second : IsTokens y b z) (r : chars bs
         ≡ without_start is_http_whitespace z) where
       -- if the text after the subtype and HTTP whitespace is not empty and does not begin with ';', there is no head
       pub no_parameters : (length (chars bs) == 0) ≡ false → after_mark 59 (chars bs) ≡ None → HasNoHead s
-      no_parameters n m a' b' c h =
-          let p = has_parts s a' b' c h in
-          let same : chars bs ≡ c = cc (p.parameters_are, slash_is first y slash, second.after) in
-          not_begins (chars bs) m n (rw same h.begins)
+      no_parameters n m a' b' c h = grind (arith, has_parts s a' b' c h, slash_is first y slash, not_begins)
 
       -- if that text is empty or begins with ';', the parts are the head
       pub is_head : BeginsParameters (chars bs) → IsHead s a b (chars bs)
-      is_head begins = record {
-        gap = front_of is_http_whitespace z;
-        joined = grind (arith, take-append-drop, mark_is);
-        is_type = first.token;
-        is_subtype = second.token;
-        in_gap = front_passes is_http_whitespace z;
-        begins = begins;
-      }
+      is_head begins = grind (arith, take-append-drop, mark_is, front_passes is_http_whitespace z)
 
 -- the pair that is read
 pair_by : (s name : List ℕ) {r : Reading} (value : Option (List ℕ)) → r ≡ reading_in s → name ≡ front_of in_name
@@ -218,9 +206,7 @@ pub parameter_by : (s t front after : List ℕ) {o : Option (List ℕ)} → char
     → (value : Option (List ℕ)) → value ≡ quotable_value (reading (chars after) o).value
     → (pair_if (map to_ascii_lowercase (chars front)) value ≡ valid_of (item_in s))
     × ((reading (chars after) o).rest ≡ (reading_in s).rest)
-parameter_by s t front after {o = o} g h k m value v =
-    let by : reading (chars after) o ≡ reading_in s = cc in
-    (pair_by s (chars front) value by (cc) v, ap (λ (r : Reading). r.rest) by)
+parameter_by s t front after {o = o} g h k m value v = grind (arith, pair_by)
 
 -- if t ++ back is empty or begins with ';', t is empty or begins with ';'
 front_begins : (t back : List ℕ) → BeginsParameters (t ++ back) → BeginsParameters t

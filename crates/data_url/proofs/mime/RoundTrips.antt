@@ -126,11 +126,7 @@ module _ {W : Type 0} {took : W → List ℕ → W → Type 0} {f g : Formatter 
       → b ≡ string_bytes r.subtype → Adds took f l ((a ++ (47 ∷ [])) ++ b) g m
       → Prints took f (pairs_text r.parameters.items) (encode_utf8_all (printed (record_of r))) g m
   unfolding printed
-  prints_starts r a b z d e x = record {
-    written = x.written;
-    wrote = x.wrote;
-    joined = grind (arith, append_assoc, encode_ascii, text_bytes, encodes-append);
-  }
+  prints_starts r a b z d e x = grind (arith, append_assoc, encode_ascii, text_bytes, encodes-append)
 
   module _ {A B : Type 0} {pairs items : List (String A × String B)} {start : Formatter W} (i : ℕ) {whole : List ℕ}
       (x : Prints took start (pairs_text (drop i pairs)) whole f l) (e : items ≡ pairs) where
@@ -317,16 +313,12 @@ all_kept m w = grind (arith, all_valid, first_itself)
 -- a well-formed record, printed, does not begin with HTTP whitespace
 printed_begins : (m : Record) → IsWellformed m → DoesNotBegin is_http_whitespace (printed m)
 unfolding printed is_token
-printed_begins m w = not_begins_append is_http_whitespace m.type_ _
-    (tokens_begin is_http_whitespace refl m.type_ (name_tokens m.type_ w.type_)) refl
+printed_begins m w = search (arith, not_begins_append, tokens_begin, name_tokens)
 
 -- a well-formed record, printed, does not end with HTTP whitespace
 printed_ends : (m : Record) → IsWellformed m → DoesNotEnd is_http_whitespace (printed m)
 unfolding printed is_token
-printed_ends m w = rw (← append_assoc m.type_ (47 ∷ m.subtype) (flat_map printed_pair m.parameters))
-    (pairs_not_end m.parameters (m.type_ ++ (47 ∷ m.subtype)) (ends_with is_http_whitespace m.type_ 47 m.subtype
-    (ends_after is_http_whitespace 47 m.subtype refl
-    (tokens_end is_http_whitespace refl m.subtype (name_tokens m.subtype w.subtype)))))
+printed_ends m w = search (arith, append_assoc, pairs_not_end, ends_with, ends_after, tokens_end, name_tokens)
 
 -- a well-formed record, printed, has its type, its subtype and its printed parameters as head
 printed_head : (m : Record) → IsWellformed m → IsHead (printed m) m.type_ m.subtype (flat_map printed_pair m.parameters)

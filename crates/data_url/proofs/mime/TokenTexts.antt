@@ -134,10 +134,7 @@ module _ {text bytes : List ℕ} {tokens more : ℕ} (u : IsUtf8 text) (e : byte
     (drop tokens bytes))) where
   -- the name is its longest prefix of token code points, and what follows up to the first ';' or '='
   name_length : tokens + more ≡ prefix_len in_name text
-  name_length =
-      let passes : (k : ℕ) → k < tokens → in_name (get_or bytes k 0) ≡ true =
-      λ k l. token_in_name _ (prefix_len_passes is_token bytes k 0 (omega arith)) in
-      grind (arith, take_rest, front_further, prefix_len-le-length)
+  name_length = grind (arith, token_in_name, prefix_len_passes, take_rest, front_further, prefix_len-le-length)
 
   -- a UTF-8 text can be cut after the name
   pub cut_name : IsCutInto text (tokens + more) (front_of in_name (chars text)) (without_start in_name (chars text))
@@ -190,8 +187,7 @@ closed_reading q v w h =
 -- a quoted string without a closing quote is read as its value, and nothing is left
 pub open_reading : (q v : List ℕ) → QuotedOpen q v → quoted_reading q ≡ record { value = Some v; rest = [] }
 open_reading q v h =
-    let o = quoted_open q v h in
-    cc (o.0, o.1, drop_of_length-le q {i = suc (length q)} (omega arith), take-length q)
+    grind (arith, quoted_open q v h, drop_of_length-le q {i = suc (length q)} (omega arith), take-length q)
 
 -- the text with a backslash before it if the flag is true
 abbrev pub flagged : Bool → List ℕ → List ℕ

@@ -21,8 +21,7 @@ module _ {F E : Type 0} (step : F → List ℕ → Result (Unit {0}) E → F →
       → IsRun step f (xs ++ ys) h
   run-append [] ys f g h x n y = rw x y
   run-append (c ∷ cs) ys f g h x n y =
-      let more = run-append cs ys c.after g h x.2 (later_none c.answer (refusal cs) n) y in
-      (x.0, λ e. absurd (ok_is_no_error c.answer (refusal cs) n e), more)
+      grind (arith, run-append cs ys c.after g h x.2 (later_none c.answer (refusal cs) n) y, later_none, ok_is_no_error)
 
 -- if xs ends without an error, the error that ends xs ++ ys is the one that ends ys
 pub refusal-append : {F E : Type 0} (xs ys : List (Call F E)) → refusal xs ≡ None → refusal (xs ++ ys) ≡ refusal ys

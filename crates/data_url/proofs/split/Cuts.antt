@@ -57,11 +57,8 @@ pub spells_all : (text : List ℕ) (place n : ℕ) → place < length text → S
     → is_tab_or_newline (get_or text place 0) ≡ false
     → to_ascii_lowercase (get_or text place 0) ≡ get_or scheme n 0 → n + 1 ≡ 5
     → IsSchemeAndRest text (drop (place + 1) text)
-spells_all text place n l h e same whole = record {
-  scheme = take (place + 1) text;
-  joined = sym (take-append-drop (place + 1) text);
-  spelled = one_more text place n l h e same ∙ ap (λ k. take k scheme) whole;
-}
+spells_all text place n l h e same whole =
+    grind (arith, take-append-drop (place + 1) text, one_more text place n l h e same)
 
 -- a text that spells n bytes of the scheme has n bytes without its tabs and newlines
 spelled_length : (s : List ℕ) (n : ℕ) → Spells s n → length (without_tabs_and_newlines s) ≡ n
@@ -69,9 +66,7 @@ spelled_length s n h = grind (arith, length-map, length-take)
 
 -- a text that spells only a part of the scheme does not begin with the scheme
 pub ends_early : (s : List ℕ) (n : ℕ) → Spells s n → HasNoScheme s
-ends_early s n h =
-    let low = map to_ascii_lowercase (take 5 (without_tabs_and_newlines s)) in
-    grind (arith, bytes_eq-Decides low scheme, length-map, length-take, spelled_length s n h)
+ends_early s n h = grind (arith, bytes_eq-Decides, length-map, length-take, spelled_length s n h)
 
 -- if a byte follows that is neither a tab or newline nor the next byte of the scheme, the text does not begin with the
 -- scheme
