@@ -31,16 +31,11 @@ low_quotable : (c : ℕ) → c < 2048 → list_all is_quotable_byte (encode c) �
 unfolding encode is_quotable is_quotable_byte
 low_quotable c l = agree_below_at (λ x. list_all is_quotable_byte (encode x)) is_quotable 2048 c refl l
 
--- the bytes of a code point that is at least 2048 are not all quotable
-high_quotable : (c : ℕ) → 2048 ≤ c → list_all is_quotable_byte (encode c) ≡ false
-unfolding encode
-high_quotable c l = grind (arith, quotable_byte_below)
-
 -- the bytes of an encoded text are all quotable exactly if its code points are all quotable
 quotable_bytes : (cs : List ℕ) → list_all is_quotable_byte (encode_utf8_all cs) ≡ list_all is_quotable cs
-unfolding is_quotable
+unfolding encode is_quotable
 quotable_bytes [] = refl
-quotable_bytes (c ∷ cs) = grind (arith, list_all-append, low_quotable, high_quotable, quotable_bytes cs)
+quotable_bytes (c ∷ cs) = grind (arith, list_all-append, low_quotable, quotable_byte_below, quotable_bytes cs)
 
 -- each byte of a UTF-8 text passes `is_quotable_byte` exactly if each of its code points passes `is_quotable`
 quotable_chars : (bs : List ℕ) → IsUtf8 bs → list_all is_quotable_byte bs ≡ list_all is_quotable (chars bs)
@@ -171,10 +166,6 @@ token_not_nil (c ∷ a) h e = absurd (cc)
 pub no_type : (s t : List ℕ) → t ≡ trimmed_of is_http_whitespace s → front_of is_token t ≡ [] → HasNoHead s
 no_type s t e z a b c h = grind (arith, has_parts, token_not_nil)
 
--- the text after the slash is the one that is read
-slash_is : {t a x : List ℕ} → IsTokens t a x → (y : List ℕ) → after_mark 47 x ≡ Some y → after_slash t ≡ y
-slash_is {x = x} first y slash = grind (arith, mark_is)
-
 module _ {s t a x : List ℕ} (first : IsTokens t a x) (e : t ≡ trimmed_of is_http_whitespace s) where
   -- if the text after the type does not begin with '/', there is no head
   pub no_slash : after_mark 47 x ≡ None → HasNoHead s
@@ -183,22 +174,17 @@ module _ {s t a x : List ℕ} (first : IsTokens t a x) (e : t ≡ trimmed_of is_
   module _ (y : List ℕ) (slash : after_mark 47 x ≡ Some y) where
     -- if the subtype is empty, there is no head
     pub no_subtype : front_of is_token y ≡ [] → HasNoHead s
-    no_subtype z a' b c h = grind (arith, has_parts s a' b c h, token_not_nil, slash_is first y slash)
+    no_subtype z a' b c h = grind (arith, has_parts s a' b c h, token_not_nil, mark_is)
 
     module _ {b z : List ℕ} (bs : List ℕ) (second : IsTokens y b z) (r : chars bs
         ≡ without_start is_http_whitespace z) where
       -- if the text after the subtype and HTTP whitespace is not empty and does not begin with ';', there is no head
       pub no_parameters : (length (chars bs) == 0) ≡ false → after_mark 59 (chars bs) ≡ None → HasNoHead s
-      no_parameters n m a' b' c h = grind (arith, has_parts s a' b' c h, slash_is first y slash, not_begins)
+      no_parameters n m a' b' c h = grind (arith, has_parts s a' b' c h, mark_is, not_begins)
 
       -- if that text is empty or begins with ';', the parts are the head
       pub is_head : BeginsParameters (chars bs) → IsHead s a b (chars bs)
       is_head begins = grind (arith, take-append-drop, mark_is, front_passes is_http_whitespace z)
-
--- the pair that is read
-pair_by : (s name : List ℕ) {r : Reading} (value : Option (List ℕ)) → r ≡ reading_in s → name ≡ front_of in_name
-    (named s) → value ≡ quotable_value r.value → pair_if (map to_ascii_lowercase name) value ≡ valid_of (item_in s)
-pair_by s name value e n v = grind arith
 
 -- the pair and the rest that are read from a text that is cut after a name
 pub parameter_by : (s t front after : List ℕ) {o : Option (List ℕ)} → chars front ≡ front_of in_name (chars t)
@@ -206,7 +192,7 @@ pub parameter_by : (s t front after : List ℕ) {o : Option (List ℕ)} → char
     → (value : Option (List ℕ)) → value ≡ quotable_value (reading (chars after) o).value
     → (pair_if (map to_ascii_lowercase (chars front)) value ≡ valid_of (item_in s))
     × ((reading (chars after) o).rest ≡ (reading_in s).rest)
-parameter_by s t front after {o = o} g h k m value v = grind (arith, pair_by)
+parameter_by s t front after {o = o} g h k m value v = grind arith
 
 -- if t ++ back is empty or begins with ';', t is empty or begins with ';'
 front_begins : (t back : List ℕ) → BeginsParameters (t ++ back) → BeginsParameters t

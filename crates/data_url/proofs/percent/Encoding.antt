@@ -64,10 +64,6 @@ set_no_hex : (b : ℕ) → b < 256 → in_query_set b ≡ true → is_ascii_hexd
 set_no_hex b l h = not-true (is_ascii_hexdigit b)
     (unmarked_passes (λ b. not (in_query_set b)) (λ b. not (is_ascii_hexdigit b)) refl b l (ap not h))
 
--- and is neither '%' nor ','
-set_other : (b c : ℕ) → in_query_set c ≡ false → in_query_set b ≡ true → (b == c) ≡ false
-set_other b c e h = grind (arith, ne_eqb, both_ways)
-
 -- the upper-case hexadecimal digit of a number below 16 is a hexadecimal digit with that value
 hex_digit_is : (d : ℕ) → d < 16 → (digit_value (hex_digit d) ≡ d) × (is_ascii_hexdigit (hex_digit d) ≡ true)
 hex_digit_is d l = grind (arith, agree_below_at)
@@ -126,7 +122,7 @@ first_no_digit c (d ∷ s) h = grind arith
 pub recoded-decoded : {s x : List ℕ} → Recoded s x → percent_decoding x ≡ percent_decoding s
 recoded-decoded none = refl
 recoded-decoded (written {s} {x} b h l r) =
-    grind (arith, recoded-decoded r, decoded_written, decoded_keeps, and_left, set_other)
+    grind (arith, recoded-decoded r, decoded_written, decoded_keeps, and_left, ne_eqb, both_ways)
 recoded-decoded (kept b none) = refl
 recoded-decoded (kept b (kept c none)) = refl
 recoded-decoded (kept b (written {s} c h l r)) =
@@ -220,7 +216,7 @@ after_written b x = grind (arith, after_other)
 pub recoded_tails : {s x : List ℕ} → Recoded s x → RecodedTails (after 44 s) (after 44 x)
 recoded_tails none = grind (arith, after_nil)
 recoded_tails (kept {s} {x} b r) = grind (arith, after_same, after_other, recoded_tails r)
-recoded_tails (written {s} {x} b h l r) = grind (arith, after_other, set_other, after_written, recoded_tails r)
+recoded_tails (written {s} {x} b h l r) = grind (arith, after_other, ne_eqb, both_ways, after_written, recoded_tails r)
 
 -- if a set does not have the comma, cutting at the first comma and encoding can be done in either order
 before_encoded : (p : ℕ → Bool) → p 44 ≡ false → (s : List ℕ) → before 44 (percent_encoding p s) ≡ percent_encoding p
@@ -329,7 +325,8 @@ put_more p s i room at row new m l within r n e =
     let len = length-take-le at room (omega (arith, m.long)) in
     let more = take_more s i 0 l in
     let all = encoded-append p (take i s) (get_or s i 0 ∷ []) in
-    let put = take-put_mid at (at + 4 - at) room new (at + 4) (omega (arith, ap length e, r.four)) (omega (arith, m.long)) in
+    let put = take-put_mid at (at + 4 - at) room new (at + 4) (omega (arith, ap length e, r.four))
+    (omega (arith, m.long)) in
     let front = take-take (at + width) (at + 4) room' (omega arith) in
     let seam = take-append-add (take at room) row width in
     record { few = omega (arith, m.few); long = same_len_mid at (at + 4 - at) room new n ∙ m.long; wrote = cc }

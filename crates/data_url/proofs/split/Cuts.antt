@@ -109,11 +109,6 @@ pub record IsHeaderEnd (s : List ℕ) (n : ℕ) : Type 0 where
   pub no_comma : after 44 (take n s) ≡ None
   pub no_hash : after 35 (take n s) ≡ None
 
--- the first ',' or '#' of a text comes after the plain bytes at its front
-further_on : (s items : List ℕ) (n : ℕ) → items ≡ s → n ≡ prefix_len is_plain_path items
-    → prefix_len in_header s ≡ n + prefix_len in_header (drop n s)
-further_on s items n e f = grind (arith, front_further, prefix_len_passes, prefix_len-le-length)
-
 -- a text of bytes that are neither ',' nor '#' has neither
 no_end : (s : List ℕ) → Every in_header s → (after 44 s ≡ None) × (after 35 s ≡ None)
 no_end [] h = (after_nil 44, after_nil 35)
@@ -133,7 +128,7 @@ module _ (s items : List ℕ) (n k : ℕ) (e : items ≡ s) (f : n ≡ prefix_le
     (g : k ≡ prefix_len in_header (take (length items - n) (drop n items))) where
   -- the first ',' or '#' of the text, if there is one, is k bytes after the n plain bytes at the front
   end_at : n + k ≡ prefix_len in_header s
-  end_at = grind (arith, take_rest, further_on s items n e f)
+  end_at = grind (arith, take_rest, front_further, prefix_len_passes, prefix_len-le-length)
 
   -- if the text has so many bytes, the first ',' or '#' is at n + k
   pub header_end_at : n + k ≢ length s → IsHeaderEnd s (n + k)
