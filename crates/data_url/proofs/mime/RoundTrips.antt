@@ -149,6 +149,9 @@ module _ {W : Type 0} {took : W → List ℕ → W → Type 0} {f g : Formatter 
 -- the lemmas for `line.rt`
 pub ruleset lines = (adds_held, adds_after, adds_written, held_more)
 
+-- the lemmas for `push_escaped`
+pub ruleset escaping = (adds_same, adds_written, plain_copy)
+
 -- the test of two lists, pair by pair, is true exactly if the lists have equal texts
 pairs_decide : {A B : Type 0} (ps qs : List (String A × String B))
     → Decides (pointwise same_pair ps qs) (map texts_of_pair ps ≡ map texts_of_pair qs)

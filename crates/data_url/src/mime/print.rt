@@ -35,6 +35,7 @@ pub(super) fn push_parameter<W: fmt::Write>(
 }
 
 /// Adds a text with a `\` before each `"` and each `\`.
+#[tactic(auto, using(crate::proofs::mime::RoundTrips::escaping))]
 fn push_escaped<W: fmt::Write>(
     line: &mut Line,
     f: &mut fmt::Formatter<W>,

@@ -13,9 +13,6 @@ pub loop-byte-preserved : goal.loop-byte-preserved
 loop-byte-preserved c = rw c.from-at.ensures (put_more _ _ _ _ _ _ _ c.loop-byte.invariant c.loop-byte-test.true
     (omega arith) c.entry-entry.ensures c.copy_from_slice.ensures.len c.copy_from_slice.ensures.after)
 
-pub returns-clause-written : goal.returns-clause-written
-returns-clause-written c = grind (arith, take_all)
-
 pub returns-clause-text : goal.returns-clause-text
 returns-clause-text c =
-    encoded_text c.args.set c.args.part.now _ (λ i. omega (arith, c.type_inv.part i)) (returns-clause-written c)
+    encoded_text c.args.set c.args.part.now _ (λ i. omega (arith, c.type_inv.part i)) (grind (arith, take_all))
