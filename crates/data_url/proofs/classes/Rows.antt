@@ -1,4 +1,7 @@
 -- Classes of bytes, sixteen bytes at a time. For `rows_len` and `span`.
+use Rattle.std.proofs.lemmas.Bool.{cases_Bool}
+use Rattle.std.proofs.Common.{one-add}
+use Rattle.std.proofs.lemmas.Grind.{common_steps}
 use Rattle.std.proofs.Common.{bit_and, true, false, sym, ap, ◌∙◌, ⊎_elim, arith, w8, ◌==◌, ◌||◌, not}
 use Rattle.std.{proofs.Common.{drop, length}, proofs.lemmas.Simd.{bitmask_splat, map-map, none_from_empty_mask}}
 use Rattle.std.proofs.lemmas.Simd.{run_in_chunk_fails, trailing_mask_l}

@@ -1,4 +1,7 @@
 -- MIME types with their records and printed texts, by computation.
+use Rattle.std.proofs.lemmas.Bool.{cases_Bool}
+use Rattle.std.proofs.Common.{one-add}
+use Rattle.std.proofs.lemmas.Grind.{common_steps}
 use Rattle.std.proofs.Common.{arith, map, IsTrue, ◌≡◌, ℕ, true, List, [], ◌∷◌, ◌++◌, inr, codes, eq-eqb, length, refl}
 use Rattle.std.{proofs.Common.{subst, sym, ◌∙◌}, specs.Char.{to_ascii_lowercase}, specs.List.{list_all}}
 use Rattle.data_url.specs.{CodePoints.{is_http_whitespace}, Mime.{Parses, Record, default_record}}

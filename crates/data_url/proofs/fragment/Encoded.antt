@@ -1,4 +1,7 @@
 -- An encoded fragment is read again as it is.
+use Rattle.std.proofs.lemmas.Bool.{cases_Bool}
+use Rattle.std.proofs.Common.{one-add}
+use Rattle.std.proofs.lemmas.Grind.{common_steps}
 use Rattle.std.proofs.Common.{◌≡◌, ℕ, ◌<◌, true, false, List, [], ◌∷◌, Some, refl, ap, ◌∙◌, arith}
 use Rattle.std.proofs.lemmas.Bool.{agree_below_at}
 use Rattle.data_url.specs.Fetch.{encoded_body, header_of, staged, staged_fragment, staged_front}

@@ -1,4 +1,6 @@
 -- Whether a header has the suffix ";base64", from its end. For callers that know only this end.
+use Rattle.std.proofs.Common.{one-add}
+use Rattle.std.proofs.lemmas.Grind.{common_steps}
 use Rattle.std.proofs.Common.{None, Some, ap, ◌∙◌, arith, Bool, true, false, ◌++◌, length-append, refl, sym, inl, inr}
 use Rattle.std.proofs.Common.{append_assoc, append-nil, ◌==◌, ◌≡◌, ◌≢◌, ℕ, ◌+◌, ◌-◌, ◌<◌, ◌≤◌, List, [], ◌∷◌, length}
 use Rattle.std.proofs.Common.{get_or, take, drop, map, codes, get_or-drop, eqb-true, take_all, length-drop}
@@ -134,10 +136,7 @@ flag_of_last header last n c at drops mark path query = flag_by false header las
 
 -- a byte whose lower case is kept is kept
 lower_kept : (b : ℕ) → is_kept (to_ascii_lowercase b) ≡ true → is_kept b ≡ true
-lower_kept b h = elim (cases_Bool (is_in_range 65 90 b)) [
-  | inl e ↦ grind (arith, e)
-  | inr e ↦ let same : to_ascii_lowercase b ≡ b = grind (arith, e) in rw same at h
-]
+lower_kept b h = grind (arith, common_steps)
 
 -- bytes whose lower case is kept are kept
 kept_lower : (q : List ℕ) → list_all is_kept (map to_ascii_lowercase q) ≡ true → list_all is_kept q ≡ true

@@ -1,4 +1,6 @@
 -- The suffix `;base64` of a header, and its serialised path and query. For `header.rt`.
+use Rattle.std.proofs.Common.{one-add}
+use Rattle.std.proofs.lemmas.Grind.{common_steps}
 use Rattle.std.proofs.Common.{None, Some, ap, ◌∙◌, arith, suc, Bool, false, ◌++◌, length-append, reverse, Option}
 use Rattle.std.proofs.Common.{get_or-drop, append-nil, take-append-drop, take_all}
 use Rattle.std.proofs.Common.{is_some, refl, append_assoc, ◌⊎◌, true, sym, inl, inr, ⊎_elim, eqb-true, subst, zero}
@@ -83,15 +85,7 @@ with_semicolon s n spaces m p h e is =
 
 -- if b does not pass, the longest suffix of x ++ b ∷ q that passes is as long as that of q
 pub suffix_stop : (p : ℕ → Bool) (x q : List ℕ) (b : ℕ) → p b ≡ false → suffix_len p (x ++ b ∷ q) ≡ suffix_len p q
-suffix_stop p x q b f =
-    grind (
-      arith,
-      prefix_len-drop_no p (b ∷ reverse x) 0 0 (omega arith) f,
-      reverse-append x (b ∷ q),
-      reverse-append (b ∷ []) q,
-      append_assoc (reverse q) (b ∷ []) (reverse x),
-      prefix_len-append p (reverse q) (b ∷ reverse x),
-    )
+suffix_stop p x q b f = grind (arith, common_steps, prefix_len-drop_no, reverse-append, append_assoc, prefix_len-append)
 
 -- removing spaces at the end of a text with a '?' removes them only after that '?'
 end_after : (x q : List ℕ) → without_end is_space (x ++ 63 ∷ q) ≡ x ++ 63 ∷ without_end is_space q

@@ -1,4 +1,6 @@
 -- The stages of the Standard, from the input to its record. For `DataUrl::process`.
+use Rattle.std.proofs.Common.{one-add}
+use Rattle.std.proofs.lemmas.Grind.{common_steps}
 use Rattle.std.proofs.Common.{Option, unwrap_or, get_or-drop, get_or-take, length-drop, take-append-drop, length-take}
 use Rattle.std.proofs.Common.{Some, refl, sym, ap, ◌∙◌, inl, inr, eqb-true, subst, arith, map, codes, ◌≢◌, is_some}
 use Rattle.std.{proofs.Common.{drop_at, take_at}, proofs.lemmas.Slice.Eq.{bytes_eq-Decides}, specs.Option.{option_map}}

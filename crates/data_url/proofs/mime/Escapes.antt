@@ -1,4 +1,6 @@
 -- Quoted strings: where they end, and their values. For `split_quote` and `values.rt`.
+use Rattle.std.proofs.lemmas.Bool.{cases_Bool}
+use Rattle.std.proofs.lemmas.Grind.{common_steps}
 use Rattle.std.proofs.Common.{◌≡◌, ℕ, ◌+◌, ◌-◌, ◌<◌, ◌≤◌, ◌==◌, Bool, true, false, not, cond, List, [], ◌∷◌}
 use Rattle.std.proofs.Common.{◌++◌, length, take, drop, refl, sym, ap, ◌∙◌, append_assoc, append-nil, arith, eqb-true}
 use Rattle.std.proofs.Common.{length-drop, encode_utf8_all, one-add, take_all}

@@ -1,4 +1,7 @@
 -- Which parameters are kept: the first of each name. For `kept.rt`, and that a record is well formed.
+use Rattle.std.proofs.lemmas.Bool.{cases_Bool}
+use Rattle.std.proofs.Common.{one-add}
+use Rattle.std.proofs.lemmas.Grind.{common_steps}
 use Rattle.std.proofs.Common.{◌+◌, append_assoc, append-nil, arith, ◌≤◌, not, string_bytes, ◌⊎◌}
 use Rattle.std.proofs.Common.{false, cond, [], ◌∷◌, ◌++◌, get_or, drop, Option, None, Some, refl, ap₂, subst, Global}
 use Rattle.std.proofs.Common.{slice_index, suc, ◌-◌, ⊎_elim}
@@ -38,9 +41,7 @@ test_from_different a c n = grind (arith, false_from_ne_true, bytes_eq-Decides)
 -- a code point in lower case is a token code point exactly if the code point is
 token_lower : (c : ℕ) → is_token (to_ascii_lowercase c) ≡ is_token c
 unfolding is_token
-token_lower c =
-    let below = agree_below_at (λ x. is_token (to_ascii_lowercase x)) is_token 128 c refl in
-    grind (arith, cases_lt c 128, lowercase_is)
+token_lower c = grind (arith, common_steps)
 
 -- a text in lower case has only token code points exactly if the text has
 all_token_lower : (t : List ℕ) → list_all is_token (map to_ascii_lowercase t) ≡ list_all is_token t

@@ -1,4 +1,6 @@
 -- A text has one list of items, and at most one record.
+use Rattle.std.proofs.lemmas.Bool.{cases_Bool}
+use Rattle.std.proofs.lemmas.Grind.{common_steps}
 use Rattle.std.proofs.Common.{Some, length, refl, sym, ap, ◌∙◌, subst, append_assoc, append-nil, arith, drop, take}
 use Rattle.std.{proofs.Common.{one-add, ◌+◌, length-append, eqb-true, take-append-drop}, proofs.lemmas.Bool.{not-false}}
 use Rattle.std.proofs.Common.{◌≡◌, ℕ, zero, suc, ◌≤◌, ◌==◌, Bool, false, cond, List, [], ◌∷◌, ◌++◌, Option, true, None}

@@ -1,4 +1,7 @@
 -- Printed records: `Display` and `PartialEq` of `Mime`, and that parsing a printed record returns the record.
+use Rattle.std.proofs.lemmas.Bool.{cases_Bool}
+use Rattle.std.proofs.Common.{one-add}
+use Rattle.std.proofs.lemmas.Grind.{common_steps}
 use Rattle.std.{proofs.Common.{Decides, IsTrue}, specs.List.{flat_map, AllZip, list_all, prefix_len}}
 use Rattle.std.specs.Str.{IsUtf8, chars}
 use Rattle.std.proofs.Common.{String, string_bytes, map, encode_utf8, encode_utf8_all, refl, sym, subst, append_assoc}
@@ -301,8 +304,7 @@ all_valid (p ∷ pairs) h k = grind (arith, and_parts, cond-true, and_from, all_
 distinct_new : (e : List Pair) (p : Pair) (ps : List Pair) → has_distinct_names (e ++ (p ∷ ps)) ≡ true
     → has_name p.0 e ≡ false
 distinct_new [] p ps h = refl
-distinct_new (q ∷ e) p ps h =
-    grind (arith, list_any-append {X = Pair}, test_from_different, both_ways, bytes_eq-Decides, distinct_new e p ps)
+distinct_new (q ∷ e) p ps h = grind (arith, common_steps, distinct_new e p ps, test_from_different)
 
 -- pairs with distinct names are all the first of their name
 first_itself : (e ps : List Pair) → has_distinct_names (e ++ ps) ≡ true → first_of_each_name e ps ≡ ps

@@ -1,4 +1,7 @@
 -- Texts of token code points, and quoted strings. For `cuts.rt`, `values.rt` and `split_quote`.
+use Rattle.std.proofs.lemmas.Bool.{cases_Bool}
+use Rattle.std.proofs.Common.{one-add}
+use Rattle.std.proofs.lemmas.Grind.{common_steps}
 use Rattle.std.proofs.Common.{append_assoc, append-nil, eqb-true, inl, inr, zero, suc, get_or, encode_utf8_all}
 use Rattle.std.{proofs.Common.{drop-drop, ◌||◌, ◌⊎◌, ◌≢◌}, proofs.lemmas.List.{take_rest}}
 use Rattle.std.proofs.lemmas.Bool.{agree_below_at, and_parts, and_from, cases_lt, eqb-false}
@@ -119,9 +122,7 @@ pub ruleset tokens = (tokens_steady, cut_front, chars-nil, token_text_by, some_t
 -- a token code point does not end a name
 token_in_name : (c : ℕ) → is_token c ≡ true → in_name c ≡ true
 unfolding is_token
-token_in_name c h =
-    let same = agree_below_at (λ b. not (is_token b) || in_name b) (λ b. true) 128 c refl (token_below c h) in
-    grind arith
+token_in_name c h = grind (arith, common_steps, token_below)
 
 -- the first n items of a text pass exactly if its longest prefix that passes has n or more
 front_all : (p : ℕ → Bool) (n : ℕ) (s : List ℕ) → n ≤ length s → list_all p (take n s) ≡ nat_le n (prefix_len p s)

@@ -1,4 +1,6 @@
 -- Percent-encoding with the rows of a table, and decoding of encoded texts. For `push_encoded`.
+use Rattle.std.proofs.Common.{one-add}
+use Rattle.std.proofs.lemmas.Grind.{common_steps}
 use Rattle.std.proofs.Common.{append_assoc, ◌≡◌, ℕ, ◌*◌, ◌+◌, ◌-◌, ◌<◌, ◌&&◌, ◌||◌, Bool, false, true, List, [], ◌∷◌}
 use Rattle.std.proofs.Common.{length, take, drop, refl, ◌/◌, ◌%◌, not, ◌++◌, Option, None, Some, sym, ap, ◌∙◌, inl, inr}
 use Rattle.std.{proofs.Common.{length-take-le, take-take}, proofs.lemmas.Slice.Eq.{bytes_eq-Decides}}
@@ -61,8 +63,7 @@ pub data Recoded : List ℕ → List ℕ → Type 0 where
 
 -- a byte of the set is not a hexadecimal digit
 set_no_hex : (b : ℕ) → b < 256 → in_query_set b ≡ true → is_ascii_hexdigit b ≡ false
-set_no_hex b l h = not-true (is_ascii_hexdigit b)
-    (unmarked_passes (λ b. not (in_query_set b)) (λ b. not (is_ascii_hexdigit b)) refl b l (ap not h))
+set_no_hex b l h = grind (arith, common_steps, unmarked_passes)
 
 -- the upper-case hexadecimal digit of a number below 16 is a hexadecimal digit with that value
 hex_digit_is : (d : ℕ) → d < 16 → (digit_value (hex_digit d) ≡ d) × (is_ascii_hexdigit (hex_digit d) ≡ true)

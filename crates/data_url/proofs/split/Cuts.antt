@@ -1,4 +1,7 @@
 -- The scheme, and the first comma of a text. For `after_scheme` and `split_at_comma`.
+use Rattle.std.proofs.lemmas.Bool.{cases_Bool}
+use Rattle.std.proofs.Common.{one-add}
+use Rattle.std.proofs.lemmas.Grind.{common_steps}
 use Rattle.std.proofs.Common.{None, Some, position, ap₂, ◌⊎◌, eqb-true, append-nil, not, [], get_or-take, length-take}
 use Rattle.std.proofs.Common.{codes, refl, sym, ap, ◌∙◌, ⊎_elim, arith, ◌-◌, Option, ◌≡◌, ◌≢◌, ℕ, ◌+◌, ◌<◌, Bool, true}
 use Rattle.std.proofs.Common.{false, List, ◌∷◌, ◌++◌, length, get_or, take, drop}
@@ -42,8 +45,7 @@ one_more : (text : List ℕ) (place n : ℕ) → place < length text → Spells 
     → to_ascii_lowercase (get_or text place 0) ≡ get_or scheme n 0
     → map to_ascii_lowercase (without_tabs_and_newlines (take (place + 1) text)) ≡ take (n + 1) scheme
 one_more text place n l h e same =
-    let more = take_more text place 0 l in
-    grind (arith, without_tabs_and_newlines-append, dropped_keeps, dropped_nil, map-append, take_more scheme n 0)
+    grind (arith, common_steps, without_tabs_and_newlines-append, dropped_keeps, dropped_nil)
 
 -- with that byte, one byte more of the scheme is spelled
 pub spells_more : (text : List ℕ) (place n : ℕ) → place < length text → Spells (take place text) n

@@ -1,4 +1,6 @@
 -- Texts of bytes: cut at a byte, and without tabs and newlines.
+use Rattle.std.proofs.Common.{one-add}
+use Rattle.std.proofs.lemmas.Grind.{common_steps}
 use Rattle.std.{proofs.Common.{Some, refl, ap, ◌∙◌, arith, eqb-true, eq-eqb, ◌==◌}, specs.Option.{option_map}}
 use Rattle.std.proofs.Common.{◌≡◌, ℕ, suc, ◌<◌, true, false, List, [], ◌∷◌, ◌++◌, length, get_or, append-nil, None}
 use Rattle.std.proofs.lemmas.Bool.{cases_Bool, cond-true, cond-false}

@@ -1,4 +1,6 @@
 -- Texts of code points, cut at the first code point that does not pass, and where their bytes can be cut.
+use Rattle.std.proofs.lemmas.Bool.{cases_Bool}
+use Rattle.std.proofs.lemmas.Grind.{common_steps}
 use Rattle.std.{proofs.Common.{append-nil, ◌==◌, take-append-drop, length-append}, specs.List.{prefix_len, suffix_len}}
 use Rattle.std.proofs.Common.{drop, refl, one-add, subst, sym, ap, ◌∙◌, arith, zero, suc, get_or, encode_utf8_all}
 use Rattle.std.proofs.Common.{◌≡◌, ℕ, ◌≤◌, ◌<◌, ◌+◌, ◌-◌, Bool, true, false, cond, List, [], ◌∷◌, ◌++◌, length, take}
@@ -67,8 +69,7 @@ end_len p (c ∷ t) back h e = end_onto p c t back [] h e
 
 -- if t is s without its longest suffix that passes, t is `without_end p s`
 pub trimmed_end_is : (p : ℕ → Bool) (s t : List ℕ) → IsTrimmedEnd p s t → t ≡ without_end p s
-trimmed_end_is p s t h =
-    grind (arith, length-append t h.back, end_len p t h.back h.at_back h.ends, take-append_seam t h.back)
+trimmed_end_is p s t h = grind (arith, common_steps, end_len)
 
 -- a text that does not end with a code point that passes has no suffix that passes
 pub end_stays : (p : ℕ → Bool) (t : List ℕ) → DoesNotEnd p t → without_end p t ≡ t
