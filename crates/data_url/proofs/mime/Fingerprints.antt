@@ -39,10 +39,6 @@ row_len bytes at l = length-take-le 16 (drop at bytes) (omega (arith, length-dro
 
 module _ (bytes : List ℕ) (at b : ℕ) {bits : ℕ} (l : at + 16 ≤ length bytes)
     (e : bits ≡ mask_l (map (λ c. c == b) (take 16 (drop at bytes)))) where
-  -- so its bits are below 2 ^ 16
-  pub bits_few : bits < 65536
-  bits_few = grind (arith, length-map, row_len, mask_l-lt)
-
   -- where the bit of a row is not set, its byte is not b
   pub unmarked : (k : ℕ) → k < 16 → bit_at bits k ≡ 0 → slice_index bytes (at + k) ≢ b
   unmarked k m z =
@@ -55,37 +51,17 @@ module _ (bytes : List ℕ) (at b : ℕ) {bits : ℕ} (l : at + 16 ≤ length by
       ∙ ap (λ n. bit_at n k) (sym e) ∙ z in
       λ same. absurd (grind (arith, same, bit))
 
--- the lowest bit of a number below 2 ^ 16 is one of the first sixteen
-pub lowest_few : {n t : ℕ} → n ≢ 0 → n < 65536 → t ≡ count_trailing_zeros 64 n → t < 16
-lowest_few {n} {t} z l e =
-    let low : (t < 64) × (bit_at n t ≡ 1) × ((i : ℕ) → i < t → bit_at n i ≡ 0) =
-    rw e (bit_at-trailing_zeros w64 n (omega arith) (omega arith)) in
-    ⊎_elim (λ (a : t < 16). a) (λ (a : 16 ≤ t). absurd (omega (arith, bit_at_above n 16 t l a, low.1))) (cases_lt t 16)
-
 -- if a bit is set in a number, but not in the number less one, no lower bit is set
 lowest : (n k : ℕ) → bit_at n k ≡ 1 → bit_at (n - 1) k ≡ 0 → (i : ℕ) → i < k → bit_at n i ≡ 0
 lowest n zero h z i l = absurd (omega arith)
-lowest n (suc k) h z i l = ⊎_elim (λ (e : n % 2 < 1).
-    let half : (n - 1) / 2 ≡ n / 2 - 1 = omega arith in
-    let less = ap (λ m. bit_at m k) (sym half) ∙ sym (bit_at-suc (n - 1) k) ∙ z in
-    ⊎_elim (λ (a : i < 1). let first : i ≡ 0 = omega arith in ap (bit_at n) first ∙ bit_at_lowest n ∙ omega arith)
-    (λ (a : 1 ≤ i).
-    let later : suc (i - 1) ≡ i = omega arith in
-    ap (bit_at n) (sym later) ∙ bit_at-suc n (i - 1)
-    ∙ lowest (n / 2) k (sym (bit_at-suc n k) ∙ h) less (i - 1) (omega arith)) (cases_lt i 1)) (λ (o : 1 ≤ n % 2).
-    let half : n / 2 ≡ (n - 1) / 2 = omega arith in
-    absurd (cc (h, z, bit_at-suc n k, bit_at-suc (n - 1) k, half))) (cases_lt (n % 2) 1)
+lowest n (suc k) h z zero l = grind (arith, bit_at-suc n k, bit_at-suc (n - 1) k, bit_at_lowest n)
+lowest n (suc k) h z (suc i) l =
+    grind (arith, bit_at-suc n k, bit_at-suc (n - 1) k, bit_at-suc n i, lowest (n / 2) k)
 
 -- a bit that is set in n, and not in n & (n - 1), is the lowest one
 pub cleared : {n k t : ℕ} → n ≢ 0 → n < 2 ^ 64 → t ≡ count_trailing_zeros 64 n → bit_at n k ≡ 1
     → bit_at (bit_and n (n - 1)) k ≡ 0 → k ≡ t
-cleared {n} {k} {t} z l e h c =
-    let low : (t < 64) × (bit_at n t ≡ 1) × ((i : ℕ) → i < t → bit_at n i ≡ 0) =
-    rw e (bit_at-trailing_zeros w64 n (omega arith) l) in
-    let less : bit_at (n - 1) k ≡ 0 = omega (arith, bit_at_and n (n - 1) k) in
-    ⊎_elim (λ (a : t < k). absurd (omega (arith, lowest n k h less t a, low.1))) (λ (a : k ≤ t).
-    ⊎_elim (λ (b : k < t). absurd (omega (arith, low.2 k b))) (λ (b : t ≤ k). omega arith) (cases_lt k t)) (cases_lt t
-    k)
+cleared {n} {k} {t} z l e h c = grind (arith, bit_at-trailing_zeros w64 n, bit_at_and n (n - 1) k, lowest n k h)
 
 module _ (bytes : List ℕ) (pairs : List Pair) (p : Pair) (room : length bytes ≡ FINGERPRINTS_LEN)
     (h : AreFingerprints (take (length (first_of pairs)) bytes) (first_of pairs)) where

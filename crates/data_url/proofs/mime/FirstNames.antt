@@ -82,42 +82,15 @@ some_byte [] h = grind (arith, chars-nil)
 some_byte (b ∷ n) h = omega arith
 
 -- if none of the pairs at any place has the name, none has it
-all_unnamed : (n : List ℕ) (pairs : List Pair)
+pub all_unnamed : (n : List ℕ) (pairs : List Pair)
     → ((k : ℕ) → k < length pairs → bytes_eq (get_or pairs k ([], [])).0 n ≡ false) → has_name n pairs ≡ false
 all_unnamed n [] h = refl
 all_unnamed n (p ∷ pairs) h = grind (arith, h 0 (omega arith), all_unnamed n pairs (λ k l. h (suc k) (omega arith)))
 
 -- none of the pairs of a row has the name whose bit is not set
 pub record NoneUnset (n : List ℕ) (pairs : List Pair) (at left : ℕ) : Type 0 where
-  pub unset : (k : ℕ) → k < 16 → bit_at left k ≡ 0 → at + k < length pairs
-      → bytes_eq (get_or pairs (at + k) ([], [])).0 n ≡ false
-
-module _ (n : List ℕ) (pairs : List Pair) (at : ℕ) where
-  -- if the bits of those that are there are not set, none of the row has the name
-  row_unnamed : {left : ℕ} → NoneUnset n pairs at left
-      → ((k : ℕ) → at + k < length pairs → bit_at left k ≡ 0) → has_name n (take 16 (drop at pairs)) ≡ false
-  row_unnamed h z =
-      let long = length-take 16 (drop at pairs) in
-      let left = length-drop at pairs in
-      all_unnamed n (take 16 (drop at pairs)) (λ k l.
-      let same : get_or (take 16 (drop at pairs)) k ([], []) ≡ get_or pairs (at + k) ([], []) =
-      get_or-take 16 (drop at pairs) k ([], []) (omega arith) ∙ get_or-drop at pairs k ([], []) in
-      rw same (h.unset k (omega arith) (z k (omega arith)) (omega arith)))
-
-  -- if one of a row has it, one has it
-  pub row_named : has_name n (take 16 (drop at pairs)) ≡ true → has_name n pairs ≡ true
-  row_named h =
-      let p : Pair → Bool = λ q. bytes_eq q.0 n in
-      let from : has_name n (drop at pairs) ≡ true = ap (has_name n) (sym (take-append-drop 16 (drop at pairs)))
-      ∙ list_any-append p (take 16 (drop at pairs)) (drop 16 (drop at pairs)) ∙ ap (λ b. b || has_name n (drop 16
-      (drop at pairs))) h in
-      ap (has_name n) (sym (take-append-drop at pairs)) ∙ list_any-append p (take at pairs) (drop at pairs)
-      ∙ ap (λ b. has_name n (take at pairs) || b) from ∙ or-true (has_name n (take at pairs))
-
-  -- if none before a row and none of the row has it, none before the end of the row has it
-  pub row_further : has_name n (take at pairs) ≡ false → has_name n (take 16 (drop at pairs)) ≡ false
-      → has_name n (take (at + 16) pairs) ≡ false
-  row_further h k = grind (arith, take-add, list_any-append)
+  pub unset : (k : ℕ) → at ≤ k → k < at + 16 → bit_at left (k - at) ≡ 0 → k < length pairs
+      → bytes_eq (get_or pairs k ([], [])).0 n ≡ false
 
 module _ {kept : KeptParameters} {len : ℕ} (x : IsIndexed kept)
     (e : len ≡ min LOOKED_THROUGH (length kept.pairs.items)) where
@@ -145,17 +118,10 @@ module _ {kept : KeptParameters} {len : ℕ} (x : IsIndexed kept)
         → bits ≡ mask_l (map (λ c. c == b) (take 16 (drop at kept.fingerprints)))
         → NoneUnset (map to_ascii_lowercase (chars n)) (first_of (pairs_of kept)) at bits
     none_unset at r m = record {
-      unset = λ k l z w.
-          let within : at + k < len = omega (arith, first_len) in
-          test_from_different _ _ (λ same. unmarked kept.fingerprints at b r m k l z (fingerprint_at (at + k) within
+      unset = λ k a l z w. test_from_different _ _ (λ same. unmarked kept.fingerprints at b r m (k - at) (omega arith) z
+          (ap (slice_index kept.fingerprints) (omega arith) ∙ fingerprint_at k (omega (arith, first_len))
           ∙ ap fingerprint_of (same ∙ ap (map to_ascii_lowercase) same_name) ∙ sym f));
     }
-
-    -- if the bits of those that are there are not set, none of the row has the name
-    pub none_named : {at left : ℕ} → NoneUnset (map to_ascii_lowercase (chars n)) (first_of (pairs_of kept)) at left
-        → ((k : ℕ) → at + k < len → bit_at left k ≡ 0)
-        → false ≡ has_name (map to_ascii_lowercase (chars n)) (take 16 (drop at (first_of (pairs_of kept))))
-    none_named {at} g z = sym (row_unnamed _ (first_of (pairs_of kept)) at g (λ k l. z k (omega (arith, first_len))))
 
     module _ {place : ℕ} {item : String Global × String Global} {key : List ℕ} (l : place < len) (g : item
         ≡ get_or kept.pairs.items place item) (k : key ≡ string_bytes item.0) where
@@ -175,21 +141,13 @@ module _ {kept : KeptParameters} {len : ℕ} (x : IsIndexed kept)
       key_at : (get_or (first_of (pairs_of kept)) place ([], [])).0 ≡ map to_ascii_lowercase key
       key_at = ap (λ (p : Pair). p.0) item_at ∙ sym (key_is.0 ∙ key_is.1)
 
-      -- if its key is the name in any ASCII case, one of the pairs of its row has the name
-      pub found_named : {at : ℕ} → at ≤ place → place < at + 16 → map to_ascii_lowercase key ≡ map to_ascii_lowercase n
-          → true ≡ has_name (map to_ascii_lowercase (chars n)) (take 16 (drop at (first_of (pairs_of kept))))
-      found_named {at} a m s =
-          let first = first_of (pairs_of kept) in
+      -- if its key is the name in any ASCII case, one of the pairs has the name
+      pub found_named : map to_ascii_lowercase key ≡ map to_ascii_lowercase n
+          → has_name (map to_ascii_lowercase (chars n)) (first_of (pairs_of kept)) ≡ true
+      found_named s =
           let n' = map to_ascii_lowercase (chars n) in
-          let same : get_or (take 16 (drop at first)) (place - at) ([], []) ≡ get_or first place ([], []) =
-          get_or-take 16 (drop at first) (place - at) ([], []) (omega arith)
-          ∙ get_or-drop at first (place - at) ([], []) ∙ ap (λ i. get_or first i ([], [])) (omega arith) in
-          let long = length-take 16 (drop at first) in
-          let left = length-drop at first in
-          sym (list_any_at (λ (p : Pair). bytes_eq p.0 n') (take 16 (drop at first)) (place - at) ([], [])
-          (omega (arith, first_len))
-          ((bytes_eq-Decides _ n').1 (ap (λ (p : Pair). p.0) same ∙ key_at ∙ s ∙ ap (map to_ascii_lowercase) (sym
-          same_name))))
+          list_any_at (λ (p : Pair). bytes_eq p.0 n') (first_of (pairs_of kept)) place ([], []) (omega (arith, first_len))
+          ((bytes_eq-Decides _ n').1 (key_at ∙ s ∙ ap (map to_ascii_lowercase) (sym same_name)))
 
       -- otherwise, the bit of this place, which is the lowest, is cleared
       pub one_cleared : {at left t : ℕ} → NoneUnset (map to_ascii_lowercase (chars n)) (first_of (pairs_of kept)) at
@@ -198,12 +156,12 @@ module _ {kept : KeptParameters} {len : ℕ} (x : IsIndexed kept)
           → (map to_ascii_lowercase key ≡ map to_ascii_lowercase n → ⊥)
           → NoneUnset (map to_ascii_lowercase (chars n)) (first_of (pairs_of kept)) at (bit_and left (left - 1))
       one_cleared {at} {left} g w v y i s = record {
-        unset = λ k m z r. ⊎_elim (λ (a : bit_at left k < 1). g.unset k m (omega arith) r)
-            (λ (a : 1 ≤ bit_at left k).
-            let here : at + k ≡ place = omega (arith, cleared w v y (omega (arith, bit_at-lt left k)) z) in
+        unset = λ k a m z r. ⊎_elim (λ (c : bit_at left (k - at) < 1). g.unset k a m (omega arith) r)
+            (λ (c : 1 ≤ bit_at left (k - at)).
+            let here : k ≡ place = omega (arith, cleared w v y (omega (arith, bit_at-lt left (k - at))) z) in
             test_from_different _ _ (λ same. s (sym key_at
             ∙ ap (λ i. (get_or (first_of (pairs_of kept)) i ([], [])).0) (sym here) ∙ same
-            ∙ ap (map to_ascii_lowercase) same_name))) (cases_lt (bit_at left k) 1);
+            ∙ ap (map to_ascii_lowercase) same_name))) (cases_lt (bit_at left (k - at)) 1);
       }
 
 -- one of the pairs has a name after p is pushed exactly if one had it before, or p has it
