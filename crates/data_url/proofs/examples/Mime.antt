@@ -1,13 +1,8 @@
 -- MIME types with their records and printed texts, by computation.
-use Rattle.std.proofs.lemmas.Bool.{cases_Bool}
-use Rattle.std.proofs.Common.{one-add}
-use Rattle.std.proofs.lemmas.Grind.{common_steps}
-use Rattle.std.proofs.Common.{arith, map, IsTrue, ◌≡◌, ℕ, true, List, [], ◌∷◌, ◌++◌, inr, codes, eq-eqb, length, refl}
-use Rattle.std.{proofs.Common.{subst, sym, ◌∙◌}, specs.Char.{to_ascii_lowercase}, specs.List.{list_all}}
-use Rattle.data_url.specs.{CodePoints.{is_http_whitespace}, Mime.{Parses, Record, default_record}}
-use Rattle.data_url.specs.Mime.{is_token_text, kept_pairs, printed, BeginsParameters, HasNoRecord, IsRecordOf, Pair}
-use Rattle.data_url.proofs.{examples.Literals.{on_literals}, mime.TokenTexts.{every_from_all}}
-use Rattle.data_url.proofs.mime.Items.{has_items, has_parts, items_in, parameters_in, subtype_in, trimmed_of, type_in}
+use Rattle.std.proofs.Common.{arith, map, IsTrue, ◌≡◌, ℕ, true, List, [], ◌∷◌, ◌++◌, inr, codes, eq-eqb, length, refl, sym}
+use Rattle.std.specs.{Char.{to_ascii_lowercase}, List.{list_all}}
+use Rattle.data_url.specs.{CodePoints.{is_http_whitespace}, Mime.{Parses, Record, default_record, is_token_text, kept_pairs, printed, BeginsParameters, HasNoRecord, IsRecordOf, Pair}}
+use Rattle.data_url.proofs.{examples.Literals.{on_literals}, mime.TokenTexts.{every_from_all}, mime.Items.{has_items, has_parts, items_in, parameters_in, subtype_in, trimmed_of, type_in}}
 
 -- Texts with a record
 

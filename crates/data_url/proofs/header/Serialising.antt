@@ -1,32 +1,8 @@
 -- The suffix `;base64` of a header, and its serialised path and query. For `header.rt`.
-use Rattle.std.proofs.Common.{one-add}
-use Rattle.std.proofs.lemmas.Grind.{common_steps}
-use Rattle.std.proofs.Common.{None, Some, ap, ◌∙◌, arith, suc, Bool, false, ◌++◌, length-append, reverse, Option}
-use Rattle.std.proofs.Common.{get_or-drop, append-nil, take-append-drop, take_all}
-use Rattle.std.proofs.Common.{is_some, refl, append_assoc, ◌⊎◌, true, sym, inl, inr, ⊎_elim, eqb-true, subst, zero}
-use Rattle.std.proofs.Common.{option_and_then, ◌==◌, length-take, get_or-take, length-drop, length-take-le, take-take}
-use Rattle.std.proofs.Common.{◌≡◌, ◌≢◌, ℕ, ◌+◌, ◌-◌, ◌<◌, ◌≤◌, List, [], ◌∷◌, length, get_or, take, drop, map, codes}
-use Rattle.std.{proofs.Math.Seq.{drop-append-add, take-append-add}, specs.Option.{option_map}, specs.Str.{bytes_eq}}
-use Rattle.std.{proofs.lemmas.Bool.{cases_lt, ne_eqb, cases_Bool, not-true, not-false}, specs.Char.{to_ascii_lowercase}}
-use Rattle.std.{proofs.lemmas.List.Folds.{prefix_len-append}, proofs.lemmas.Slice.Eq.{bytes_eq-Decides}}
-use Rattle.std.{proofs.lemmas.List.Sums.{prefix_len_passes, prefix_len_stops}, specs.List.{suffix_len, prefix_len}}
-use Rattle.std.proofs.lemmas.List.Sums.{suffix_len-le-length, prefix_len-drop_no, prefix_len-le-length}
-use Rattle.std.proofs.lemmas.List.{length-map, drop_all, drop_more, drop-append-le, get_or_at, get_or-map}
-use Rattle.std.proofs.lemmas.List.{reverse-append, take_rest, get_or-reverse, length-reverse, take_more}
-use Rattle.data_url.specs.{Steps.Header.{header_text, is_no_question_mark}}
-use Rattle.data_url.proofs.facts.Definitions.{base64_flag, serialised_with_spaces}
-use Rattle.data_url.specs.Fetch.{before_base64, before_semicolon, is_space, before_word, has_base64_suffix}
-use Rattle.data_url.specs.{Fetch.{stripped_header, before_comma}}
-use Rattle.data_url.specs.Steps.Parsing.{DoesNotEnd}
-use Rattle.data_url.specs.Steps.Header.{IsPrintable, HasNoLastSpace, IsPathAndQuery, WithoutSpace, encoded_parts}
-use Rattle.data_url.specs.Url.{encoded_byte, encoded_path, in_path_set, in_query_set, is_tab_or_newline}
-use Rattle.data_url.specs.Url.{is_c0_control_or_space, without_end, before, after, without_tabs_and_newlines}
-use Rattle.data_url.specs.Url.{percent_encoding, after_scheme, cleaned_text, serialised, trimmed_text, with_query}
-use Rattle.data_url.proofs.{split.Cuts.{cut_at}, header.Stages.{low_end, printable_take}, percent.Encoding.{encoded}}
-use Rattle.data_url.proofs.percent.Encoding.{encoded_cons, encoded_nil, path_cons, path_nil, percent_encoding-append}
-use Rattle.data_url.proofs.texts.Bytes.{before_all, before_at, after-dropped_none, after_at, after_none, dropped_around}
-use Rattle.data_url.proofs.texts.Bytes.{before_other, after_other, is_cut}
-use Rattle.data_url.proofs.texts.Bytes.{dropped_keeps, dropped_nil, dropped_passes, before-append, after-append}
+use Rattle.std.proofs.{lemmas.Grind.{common_steps}, Common.{None, Some, ap, ◌∙◌, arith, suc, Bool, false, ◌++◌, length-append, reverse, Option, get_or-drop, append-nil, take-append-drop, is_some, refl, append_assoc, ◌⊎◌, true, sym, inl, inr, eqb-true, zero, option_and_then, ◌==◌, length-take, get_or-take, length-drop, length-take-le, take-take, ◌≡◌, ◌≢◌, ℕ, ◌+◌, ◌-◌, ◌<◌, ◌≤◌, List, [], ◌∷◌, length, get_or, take, drop, map, codes}, Math.Seq.{drop-append-add, take-append-add}, lemmas.Bool.{cases_lt, ne_eqb, cases_Bool, not-true, not-false}, lemmas.List.Folds.{prefix_len-append}, lemmas.Slice.Eq.{bytes_eq-Decides}, lemmas.List.Sums.{prefix_len_passes, prefix_len_stops, suffix_len-le-length, prefix_len-drop_no, prefix_len-le-length}, lemmas.List.{length-map, drop_all, drop_more, drop-append-le, get_or_at, get_or-map, reverse-append, take_rest, get_or-reverse, length-reverse}}
+use Rattle.std.specs.{Option.{option_map}, Str.{bytes_eq}, Char.{to_ascii_lowercase}, List.{suffix_len, prefix_len}}
+use Rattle.data_url.specs.{Steps.Header.{header_text, is_no_question_mark, IsPrintable, HasNoLastSpace, IsPathAndQuery, WithoutSpace, encoded_parts}, Fetch.{before_base64, before_semicolon, is_space, before_word, has_base64_suffix, stripped_header, before_comma}, Steps.Parsing.{DoesNotEnd}, Url.{encoded_byte, encoded_path, in_path_set, in_query_set, is_tab_or_newline, is_c0_control_or_space, without_end, before, after, without_tabs_and_newlines, percent_encoding, after_scheme, cleaned_text, serialised, trimmed_text, with_query}}
+use Rattle.data_url.proofs.{facts.Definitions.{base64_flag, serialised_with_spaces}, split.Cuts.{cut_at}, header.Stages.{low_end, printable_take}, percent.Encoding.{encoded, encoded_cons, encoded_nil, path_cons, path_nil}, texts.Bytes.{before_all, before_at, after-dropped_none, after_at, after_none, dropped_around, before_other, after_other, is_cut, dropped_keeps, dropped_nil, dropped_passes, before-append, after-append}}
 
 -- the word of the suffix
 abbrev pub word : List ℕ

@@ -1,24 +1,8 @@
 -- Quoted strings: where they end, and their values. For `split_quote` and `values.rt`.
-use Rattle.std.proofs.lemmas.Bool.{cases_Bool}
-use Rattle.std.proofs.lemmas.Grind.{common_steps}
-use Rattle.std.proofs.Common.{◌≡◌, ℕ, ◌+◌, ◌-◌, ◌<◌, ◌≤◌, ◌==◌, Bool, true, false, not, cond, List, [], ◌∷◌}
-use Rattle.std.proofs.Common.{◌++◌, length, take, drop, refl, sym, ap, ◌∙◌, append_assoc, append-nil, arith, eqb-true}
-use Rattle.std.proofs.Common.{length-drop, encode_utf8_all, one-add, take_all}
-use Rattle.std.proofs.Common.{slice_index, min, suc, ◌≢◌, drop-cons, drop-drop}
-use Rattle.std.proofs.{Common.{drop_of_length-le}, lemmas.List.Sums.{prefix_len-le-length, prefix_len_stops}}
-use Rattle.std.proofs.{lemmas.Bool.{not-false}, lemmas.List.{get_or-drop}}
-use Rattle.std.proofs.lemmas.Str.{encodes-chars}
-use Rattle.std.{specs.List.{prefix_len}, specs.Str.{IsUtf8, chars}}
-use Rattle.data_url.specs.{Steps.Parsing.{Quoting, is_escaped, quoted_len}}
-use Rattle.data_url.specs.{Steps.Parsing.{unescaped}}
-use Rattle.data_url.specs.{Mime.{Every}, Steps.Classes.{AreOf, is_marked}}
-use Rattle.data_url.specs.declared.classes.TheConstants.{ESCAPED}
-use Rattle.data_url.proofs.classes.Rows.{Looked, unmarked_passes}
-use Rattle.data_url.proofs.mime.TokenTexts.{encode_others}
-use Rattle.std.proofs.Common.{zero, take-add, take-take, length-take-le, nat_le, ◌&&◌}
-use Rattle.std.proofs.Math.Seq.{take-append-add}
-use Rattle.std.proofs.lemmas.{Bool.{cases_lt}}
-use Rattle.std.proofs.lemmas.Str.{chars-encodes, encode_ascii, scalars-chars}
+use Rattle.std.proofs.{Common.{◌≡◌, ℕ, ◌+◌, ◌-◌, ◌<◌, ◌≤◌, ◌==◌, Bool, true, false, not, cond, List, [], ◌∷◌, ◌++◌, length, take, drop, refl, sym, ap, ◌∙◌, append_assoc, append-nil, arith, eqb-true, length-drop, encode_utf8_all, one-add, take_all, slice_index, min, suc, ◌≢◌, drop-cons, drop-drop, drop_of_length-le, zero, take-add, take-take, length-take-le, nat_le, ◌&&◌}, lemmas.List.Sums.{prefix_len-le-length, prefix_len_stops}, lemmas.Bool.{not-false, cases_lt}, lemmas.List.{get_or-drop}, lemmas.Str.{encodes-chars, chars-encodes, encode_ascii, scalars-chars}, Math.Seq.{take-append-add}}
+use Rattle.std.specs.{List.{prefix_len}, Str.{IsUtf8, chars}}
+use Rattle.data_url.specs.{Steps.Parsing.{Quoting, is_escaped, quoted_len, unescaped}, Mime.{Every}, Steps.Classes.{AreOf, is_marked}, declared.classes.TheConstants.{ESCAPED}}
+use Rattle.data_url.proofs.{classes.Rows.{Looked, unmarked_passes}, mime.TokenTexts.{encode_others}}
 use lib.Utf8.{encode, scalars}
 
 -- a code point other than '"' and '\'

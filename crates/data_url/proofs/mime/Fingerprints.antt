@@ -1,19 +1,7 @@
 -- Fingerprints of names, and a search for one among them. For `kept.rt`.
-use Rattle.std.proofs.lemmas.Bool.{cases_Bool}
-use Rattle.std.proofs.Common.{one-add}
-use Rattle.std.proofs.lemmas.Grind.{common_steps}
-use Rattle.std.proofs.Common.{◌≡◌, ◌≢◌, ℕ, zero, suc, ◌+◌, ◌-◌, ◌*◌, ◌%◌, ◌<◌, ◌≤◌, ◌==◌, Bool, bit_or}
-use Rattle.std.proofs.Common.{List, [], ◌∷◌, ◌++◌, length, map, take, drop, set, slice_index, refl, sym, ap, ◌∙◌, arith}
-use Rattle.std.proofs.Common.{⊎_elim, length-append, length-drop, length-take-le, take_all, false, true}
-use Rattle.std.{proofs.lemmas.Bool.{agree_below_at, cases_lt, eqb-true}}
-use Rattle.std.proofs.lemmas.List.{length-map, map-append, take-append-le, take_more_set}
-use Rattle.std.proofs.{lemmas.Nat.Bits.{bit_at-suc, bit_at-trailing_zeros, bit_at_above, bit_at_and, bit_at_lowest}, lemmas.Simd.{bit_mask_l, mask_l-lt}}
-use Rattle.std.proofs.Common.{bit_and, cond, subst, w64, ◌^◌, ◌/◌}
-use Rattle.std.proofs.lemmas.List.{get_or-drop, get_or-map, get_or-take}
-use Rattle.std.specs.Int.{bit_at}
-use Rattle.std.{specs.Char.{to_ascii_lowercase}, specs.Int.Count.{count_trailing_zeros}, specs.Simd.Lanes.{mask_l}}
-use Rattle.data_url.specs.{Mime.{Pair}, Steps.Kept.{AreFingerprints, fingerprint_of, first_of, letter_at}}
-use Rattle.data_url.specs.declared.mime.kept.TheConstants.{CASE, FINGERPRINTS_LEN, LOOKED_THROUGH}
+use Rattle.std.proofs.{Common.{◌≡◌, ◌≢◌, ℕ, zero, suc, ◌+◌, ◌-◌, ◌*◌, ◌%◌, ◌<◌, ◌≤◌, ◌==◌, Bool, bit_or, List, [], ◌∷◌, ◌++◌, length, map, take, drop, set, slice_index, refl, sym, ap, ◌∙◌, arith, length-append, length-drop, length-take-le, take_all, false, true, bit_and, cond, w64, ◌^◌, ◌/◌}, lemmas.Bool.{agree_below_at, eqb-true}, lemmas.List.{length-map, map-append, take-append-le, take_more_set, get_or-drop, get_or-map, get_or-take}, lemmas.Nat.Bits.{bit_at-suc, bit_at-trailing_zeros, bit_at_and, bit_at_lowest}, lemmas.Simd.{bit_mask_l}}
+use Rattle.std.specs.{Int.{bit_at}, Char.{to_ascii_lowercase}, Int.Count.{count_trailing_zeros}, Simd.Lanes.{mask_l}}
+use Rattle.data_url.specs.{Mime.{Pair}, Steps.Kept.{AreFingerprints, fingerprint_of, first_of, letter_at}, declared.mime.kept.TheConstants.{CASE, FINGERPRINTS_LEN, LOOKED_THROUGH}}
 
 -- the case bit of a byte can be set before or after it is put into lower case
 case_lower : (b : ℕ) → b < 256 → bit_or (to_ascii_lowercase b) CASE ≡ bit_or b CASE

@@ -1,38 +1,8 @@
 -- Which parameters are kept: the first of each name. For `kept.rt`, and that a record is well formed.
-use Rattle.std.proofs.lemmas.Bool.{cases_Bool}
-use Rattle.std.proofs.Common.{one-add}
-use Rattle.std.proofs.lemmas.Grind.{common_steps}
-use Rattle.std.proofs.Common.{◌+◌, append_assoc, append-nil, arith, ◌≤◌, not, string_bytes, ◌⊎◌}
-use Rattle.std.proofs.Common.{false, cond, [], ◌∷◌, ◌++◌, get_or, drop, Option, None, Some, refl, ap₂, subst, Global}
-use Rattle.std.proofs.Common.{slice_index, suc, ◌-◌, ⊎_elim}
-use Rattle.std.proofs.Common.{get_or-take, set, length-take, length-append, take-append-drop}
-use Rattle.std.proofs.Common.{◌≡◌, ℕ, List, String, ap, length, map, min, sym, take, ◌∙◌, ◌<◌, ◌||◌, ◌&&◌, Bool, true}
-use Rattle.std.proofs.Common.{length-drop, ◌≢◌, ◌==◌, ◌^◌, bit_and}
-use Rattle.std.{proofs.lemmas.Nat.Bits.{bit_at-lt}, specs.Int.{bit_at}, specs.Int.Count.{count_trailing_zeros}, specs.Simd.Lanes.{mask_l}}
-use Rattle.std.proofs.{Math.Bool.{or-true}, Math.Seq.{take-add}}
-use Rattle.std.proofs.lemmas.List.{get_or-drop}
-use Rattle.std.{proofs.Math.ListN.{drop_of_length-le}, proofs.lemmas.Map.Text.{btree_set_updates_text}}
-use Rattle.std.proofs.lemmas.Bool.{cond-true, not-false, not-true, agree_below_at, and_from, and_parts, cases_lt}
-use Rattle.std.{proofs.lemmas.Bool.{cond_both, false_from_ne_true}}
-use Rattle.std.proofs.lemmas.List.Folds.{list_all-append, list_all-map, list_all_at, list_any-append, list_any_at}
-use Rattle.std.proofs.lemmas.List.{get_or-map, length-map, length-set, map-append, drop-append-le}
-use Rattle.std.{proofs.lemmas.Slice.Eq.{bytes_eq-Decides}, specs.List.{list_all}, specs.Ordering.{nat_cmp}}
-use Rattle.std.proofs.lemmas.Str.Ascii.{IsAscii-map, lowercase-lowercase, lowercase_ascii, lowercase_is}
-use Rattle.std.{proofs.lemmas.Str.{chars-IsAscii, chars-nil, IsUtf8-string_bytes}, specs.Char.{to_ascii_lowercase}}
-use Rattle.std.specs.BTreeSet.{BTreeSet, UpdatesBy, contains, contains_text}
-use Rattle.std.{specs.Cmp.Lexicographic.{slice_cmp}, specs.Str.{IsUtf8, bytes_eq, chars}, specs.String.{string_cmp}}
-use Rattle.data_url.specs.CodePoints.{is_quotable, is_token}
-use Rattle.data_url.specs.declared.mime.kept.TheConstants.{LOOKED_THROUGH, FINGERPRINTS_LEN}
-use Rattle.data_url.specs.{Mime.{Parses, Record, has_distinct_names, IsRecordOfParts}, MimeType.{pair_of, code_points}}
-use Rattle.data_url.specs.Mime.{has_name, BeginsParameters, Item, Items, Pair, first_of_each_name, is_lowercase_name}
-use Rattle.data_url.specs.Mime.{is_token_text, kept_pairs, valid_of, valid_pairs, HasNoRecord, IsHead, IsWellformed}
-use Rattle.data_url.specs.Steps.Kept.{first_of, fingerprint_of, pairs_of, AreFingerprints, HasLaterNames, IsIndexed}
-use Rattle.data_url.specs.Steps.Parsing.{HasLowercaseNames, added_pairs, after_mark, item_in, pair_if, reading_in}
-use Rattle.data_url.specs.{Steps.Parsing.{unless_named, HasNoHead}, declared.mime.kept.KeptParameters.{KeptParameters}}
-use Rattle.data_url.proofs.mime.Items.{has_items, has_parameter, items_are, items_in, rest_shorter}
-use Rattle.data_url.proofs.mime.Fingerprints.{alike_first, alike_later, cleared, unmarked}
-use Rattle.data_url.proofs.{mime.Parsing.{mark_is}, texts.CodePoints.{no_chars}}
-use Rattle.data_url.proofs.mime.TokenTexts.{bytes_of_ascii, token_text_ascii, token_text_chars}
+use Rattle.std.proofs.{lemmas.Grind.{common_steps}, Common.{◌+◌, append_assoc, append-nil, arith, ◌≤◌, not, string_bytes, ◌⊎◌, false, cond, [], ◌∷◌, ◌++◌, get_or, drop, Option, None, Some, refl, ap₂, subst, Global, slice_index, suc, ◌-◌, ⊎_elim, get_or-take, set, length-take, length-append, take-append-drop, ◌≡◌, ℕ, List, String, ap, length, map, min, sym, take, ◌∙◌, ◌<◌, ◌||◌, ◌&&◌, Bool, true, ◌≢◌, ◌==◌, ◌^◌, bit_and}, lemmas.Nat.Bits.{bit_at-lt}, Math.ListN.{drop_of_length-le}, lemmas.Map.Text.{btree_set_updates_text}, lemmas.Bool.{cond-true, not-false, not-true, and_from, and_parts, cases_lt, cond_both, false_from_ne_true}, lemmas.List.Folds.{list_all-append, list_all-map, list_all_at, list_any-append, list_any_at}, lemmas.List.{get_or-map, length-map, length-set, map-append, drop-append-le}, lemmas.Slice.Eq.{bytes_eq-Decides}, lemmas.Str.Ascii.{IsAscii-map, lowercase-lowercase, lowercase_ascii}, lemmas.Str.{chars-IsAscii, chars-nil, IsUtf8-string_bytes}}
+use Rattle.std.specs.{Int.{bit_at}, Int.Count.{count_trailing_zeros}, Simd.Lanes.{mask_l}, List.{list_all}, Ordering.{nat_cmp}, Char.{to_ascii_lowercase}, BTreeSet.{BTreeSet, UpdatesBy, contains, contains_text}, Cmp.Lexicographic.{slice_cmp}, Str.{IsUtf8, bytes_eq, chars}, String.{string_cmp}}
+use Rattle.data_url.specs.{CodePoints.{is_quotable, is_token}, declared.mime.kept.TheConstants.{LOOKED_THROUGH, FINGERPRINTS_LEN}, Mime.{Parses, Record, has_distinct_names, IsRecordOfParts, has_name, BeginsParameters, Item, Items, Pair, first_of_each_name, is_lowercase_name, is_token_text, kept_pairs, valid_of, valid_pairs, HasNoRecord, IsHead, IsWellformed}, MimeType.{pair_of, code_points}, Steps.Kept.{first_of, fingerprint_of, pairs_of, AreFingerprints, HasLaterNames, IsIndexed}, Steps.Parsing.{HasLowercaseNames, added_pairs, after_mark, item_in, pair_if, reading_in, unless_named, HasNoHead}, declared.mime.kept.KeptParameters.{KeptParameters}}
+use Rattle.data_url.proofs.{mime.Items.{has_items, has_parameter, items_are, items_in, rest_shorter}, mime.Fingerprints.{alike_first, alike_later, cleared, unmarked}, mime.Parsing.{mark_is}, texts.CodePoints.{no_chars}, mime.TokenTexts.{bytes_of_ascii, token_text_ascii, token_text_chars}}
 
 -- for texts that are not equal, the test of equality is false
 pub test_from_different : (a c : List ℕ) → (a ≡ c → ⊥) → bytes_eq a c ≡ false

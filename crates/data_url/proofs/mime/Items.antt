@@ -1,19 +1,8 @@
 -- A text has one list of items, and at most one record.
-use Rattle.std.proofs.lemmas.Bool.{cases_Bool}
-use Rattle.std.proofs.lemmas.Grind.{common_steps}
-use Rattle.std.proofs.Common.{Some, length, refl, sym, ap, ◌∙◌, subst, append_assoc, append-nil, arith, drop, take}
-use Rattle.std.{proofs.Common.{one-add, ◌+◌, length-append, eqb-true, take-append-drop}, proofs.lemmas.Bool.{not-false}}
-use Rattle.std.proofs.Common.{◌≡◌, ℕ, zero, suc, ◌≤◌, ◌==◌, Bool, false, cond, List, [], ◌∷◌, ◌++◌, Option, true, None}
+use Rattle.std.proofs.{Common.{Some, length, refl, sym, ap, ◌∙◌, subst, append_assoc, append-nil, arith, drop, take, one-add, ◌+◌, length-append, eqb-true, take-append-drop, ◌≡◌, ℕ, zero, suc, ◌≤◌, ◌==◌, Bool, false, cond, List, [], ◌∷◌, ◌++◌, Option, true, None}, lemmas.Bool.{not-false}}
 use Rattle.std.specs.List.{prefix_len}
-use Rattle.data_url.specs.{CodePoints.{is_http_whitespace, is_token}}
-use Rattle.data_url.proofs.facts.Definitions.{HasOneItemList, HasAtMostOneRecord}
-use Rattle.data_url.specs.Mime.{BeginsParameters, DoesNotBegin, Every, GivesValue, IsParameter, Item, Items, is_quote}
-use Rattle.data_url.specs.Mime.{lone_equals, nothing, plain, quoted, unclosed, unless_empty, IsHead}
-use Rattle.data_url.specs.Steps.Parsing.{Reading, after_mark, front_of, given_reading, in_name, in_value, item_in}
-use Rattle.data_url.specs.Steps.Parsing.{named, plain_reading, quoted_reading, reading, reading_from, reading_in}
-use Rattle.data_url.specs.Url.{without_end, without_start}
-use Rattle.data_url.proofs.mime.TokenTexts.{IsRead, closed_reading, is_closed, is_open, is_read, open_reading}
-use Rattle.data_url.proofs.{mime.TokenTexts.{every_token}, texts.CodePoints.{after_begins, front_is, front_passes}}
+use Rattle.data_url.specs.{CodePoints.{is_http_whitespace, is_token}, Mime.{BeginsParameters, DoesNotBegin, Every, GivesValue, IsParameter, Item, Items, is_quote, lone_equals, nothing, plain, quoted, unclosed, unless_empty, IsHead}, Steps.Parsing.{Reading, after_mark, front_of, given_reading, in_name, in_value, item_in, named, plain_reading, quoted_reading, reading, reading_from, reading_in}, Url.{without_end, without_start}}
+use Rattle.data_url.proofs.{facts.Definitions.{HasOneItemList, HasAtMostOneRecord}, mime.TokenTexts.{IsRead, closed_reading, is_closed, is_open, is_read, open_reading, every_token}, texts.CodePoints.{after_begins, front_is, front_passes}}
 
 -- if ';' does not pass, a text that is empty or begins with ';' does not begin with a code point that passes
 pub ends_of_rest : (p : ℕ → Bool) → p 59 ≡ false → (rest : List ℕ) → BeginsParameters rest → DoesNotBegin p rest

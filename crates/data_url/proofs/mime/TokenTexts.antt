@@ -1,23 +1,8 @@
 -- Texts of token code points, and quoted strings. For `cuts.rt`, `values.rt` and `split_quote`.
-use Rattle.std.proofs.lemmas.Bool.{cases_Bool}
-use Rattle.std.proofs.Common.{one-add}
-use Rattle.std.proofs.lemmas.Grind.{common_steps}
-use Rattle.std.proofs.Common.{append_assoc, append-nil, eqb-true, inl, inr, zero, suc, get_or, encode_utf8_all}
-use Rattle.std.{proofs.Common.{drop-drop, ◌||◌, ◌⊎◌, ◌≢◌}, proofs.lemmas.List.{take_rest}}
-use Rattle.std.proofs.lemmas.Bool.{agree_below_at, and_parts, and_from, cases_lt, eqb-false}
-use Rattle.std.proofs.Common.{refl, sym, ap, subst, Bool, ◌∙◌, arith, take, drop, length-take-le, ◌+◌, cond, ◌++◌}
-use Rattle.std.proofs.Common.{take-append-drop, drop-cons, add-one, drop_of_length-le, Some, nat_le, length-append}
-use Rattle.std.proofs.Common.{◌-◌, ◌≡◌, ℕ, ◌<◌, ◌≤◌, ◌==◌, ◌&&◌, nat_lt, codes, true, false, not, List, [], ◌∷◌, length}
-use Rattle.std.{proofs.Math.Seq.{take-append_seam, take-length, drop-append-add}, specs.Str.{IsAscii, IsUtf8, chars}}
-use Rattle.std.proofs.lemmas.List.Sums.{prefix_len-le-length, prefix_len_passes}
-use Rattle.std.specs.List.{list_all, list_any, prefix_len, suffix_len}
-use Rattle.std.proofs.lemmas.Str.{chars-IsAscii, encodes-IsAscii, encodes-chars, chars-nil, chars_past_char}
-use Rattle.std.proofs.lemmas.Str.{encode_ascii, IsUtf8-drop, IsCharBoundary-before_ascii, IsCharBoundary-after_ascii}
-use Rattle.data_url.specs.{CodePoints.{is_http_whitespace, is_token}, Url.{without_start}}
-use Rattle.data_url.specs.Mime.{Every, is_token_text, Quoted, QuotedOpen, after_backslash, nothing_quoted, as_itself}
-use Rattle.data_url.specs.Steps.Parsing.{IsTokens, front_of, in_name, in_value, quoted_len, quoted_reading, unescaped}
-use Rattle.data_url.proofs.texts.CodePoints.{IsCutInto, IsEnd, IsSteady, cut_end, cut_front, every_ascii, front_passes}
-use Rattle.data_url.proofs.texts.CodePoints.{cut_into, front_further}
+use Rattle.std.proofs.{lemmas.Grind.{common_steps}, Common.{append_assoc, append-nil, eqb-true, inl, inr, zero, suc, get_or, encode_utf8_all, drop-drop, ◌⊎◌, ◌≢◌, refl, sym, ap, subst, Bool, ◌∙◌, arith, take, drop, length-take-le, ◌+◌, cond, ◌++◌, take-append-drop, drop-cons, add-one, drop_of_length-le, Some, nat_le, length-append, ◌-◌, ◌≡◌, ℕ, ◌<◌, ◌≤◌, ◌==◌, ◌&&◌, nat_lt, codes, true, false, not, List, [], ◌∷◌, length}, lemmas.List.{take_rest}, lemmas.Bool.{and_parts, and_from, cases_lt, eqb-false}, Math.Seq.{take-append_seam, take-length, drop-append-add}, lemmas.List.Sums.{prefix_len-le-length, prefix_len_passes}, lemmas.Str.{chars-IsAscii, encodes-IsAscii, encodes-chars, chars-nil, chars_past_char, encode_ascii, IsUtf8-drop, IsCharBoundary-before_ascii, IsCharBoundary-after_ascii}}
+use Rattle.std.specs.{Str.{IsAscii, IsUtf8, chars}, List.{list_all, list_any, prefix_len, suffix_len}}
+use Rattle.data_url.specs.{CodePoints.{is_http_whitespace, is_token}, Url.{without_start}, Mime.{Every, is_token_text, Quoted, QuotedOpen, after_backslash, nothing_quoted, as_itself}, Steps.Parsing.{IsTokens, front_of, in_name, in_value, quoted_len, quoted_reading, unescaped}}
+use Rattle.data_url.proofs.texts.CodePoints.{IsCutInto, IsEnd, IsSteady, cut_end, cut_front, every_ascii, front_passes, cut_into, front_further}
 use lib.Utf8.{encode}
 
 -- a code point that is not ASCII is none of some ASCII marks

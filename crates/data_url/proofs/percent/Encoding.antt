@@ -1,27 +1,9 @@
 -- Percent-encoding with the rows of a table, and decoding of encoded texts. For `push_encoded`.
-use Rattle.std.proofs.Common.{one-add}
-use Rattle.std.proofs.lemmas.Grind.{common_steps}
-use Rattle.std.proofs.Common.{append_assoc, ◌≡◌, ℕ, ◌*◌, ◌+◌, ◌-◌, ◌<◌, ◌&&◌, ◌||◌, Bool, false, true, List, [], ◌∷◌}
-use Rattle.std.proofs.Common.{length, take, drop, refl, ◌/◌, ◌%◌, not, ◌++◌, Option, None, Some, sym, ap, ◌∙◌, inl, inr}
-use Rattle.std.{proofs.Common.{length-take-le, take-take}, proofs.lemmas.Slice.Eq.{bytes_eq-Decides}}
-use Rattle.std.proofs.Common.{subst, append-nil, arith, suc, ◌≤◌, get_or, ◌==◌, slice_index, nat_lt, take_all}
-use Rattle.std.proofs.Math.Seq.{take-append-add}
-use Rattle.std.proofs.lemmas.Bool.{agree_below, agree_below_at, and_parts, eqb-true, and_left, cases_Bool, cond_both}
-use Rattle.std.{proofs.lemmas.Bool.{both_ways, ne_eqb, ltb-true, not-true}, specs.Char.{digit_value, is_ascii_hexdigit}}
-use Rattle.std.{proofs.lemmas.Grind.{flat_map-append}, proofs.lemmas.Str.Ascii.{IsAscii-nil}}
-use Rattle.std.{proofs.lemmas.List.{nil_from_length, take_more}, proofs.lemmas.Str.{IsAscii-append, IsUtf8-from_ascii}}
-use Rattle.std.{specs.List.{AllByRecursion, list_all}, specs.Str.{bytes_eq, IsAscii, IsUtf8}}
-use Rattle.std.proofs.lemmas.Slice.{take-put_mid}
+use Rattle.std.proofs.{lemmas.Grind.{common_steps, flat_map-append}, Common.{append_assoc, ◌≡◌, ℕ, ◌*◌, ◌+◌, ◌-◌, ◌<◌, ◌&&◌, ◌||◌, Bool, false, true, List, [], ◌∷◌, length, take, drop, refl, ◌/◌, ◌%◌, ◌++◌, Option, None, Some, sym, ap, ◌∙◌, inl, inr, length-take-le, take-take, subst, append-nil, arith, suc, ◌≤◌, get_or, ◌==◌, slice_index, nat_lt, take_all}, lemmas.Slice.Eq.{bytes_eq-Decides}, Math.Seq.{take-append-add}, lemmas.Bool.{agree_below, agree_below_at, and_parts, eqb-true, and_left, cases_Bool, cond_both, both_ways, ne_eqb, ltb-true}, lemmas.Str.Ascii.{IsAscii-nil}, lemmas.List.{nil_from_length, take_more}, lemmas.Str.{IsAscii-append, IsUtf8-from_ascii}, lemmas.Slice.{take-put_mid}}
+use Rattle.std.specs.{Char.{digit_value, is_ascii_hexdigit}, List.{AllByRecursion, list_all}, Str.{bytes_eq, IsAscii, IsUtf8}}
+use Rattle.data_url.specs.{Percent.{percent_decoding}, declared.percent.EncodeSet.TheVariants.{Fragment, Path, Query}, Steps.Header.{header_parts, header_text}, Steps.Sets.{IsEntry, byte_encoding, in_set}, Url.{in_path_end_set, percent_encoding, serialised, with_query, without_tabs_and_newlines, in_path_set, in_query_set, before, after, encoded_byte, encoded_path, hex_digit}, declared.percent.EncodeSet.{EncodeSet}}
+use Rattle.data_url.proofs.{classes.Rows.{unmarked_passes}, texts.Bytes.{after_nil, after_other, after_same, lacks, dropped_keeps, dropped_nil, dropped_passes, without_tabs_and_newlines-append, first_byte, before-append, before_at, before_nil, before_other, before_same}}
 use borrow.Rule.Slice.PartMut.{mid_of, put_mid, same_len_mid}
-use Rattle.data_url.specs.{Percent.{percent_decoding}, declared.percent.EncodeSet.TheVariants.{Fragment, Path, Query}}
-use Rattle.data_url.specs.{Steps.Header.{header_parts, header_text}, Steps.Sets.{IsEntry, byte_encoding, in_set}}
-use Rattle.data_url.specs.Url.{in_path_end_set, percent_encoding, serialised, with_query, without_tabs_and_newlines}
-use Rattle.data_url.specs.Url.{in_path_set, in_query_set, before, after, encoded_byte, encoded_path, hex_digit}
-use Rattle.data_url.specs.declared.percent.EncodeSet.{EncodeSet}
-use Rattle.data_url.proofs.classes.Rows.{unmarked_passes}
-use Rattle.data_url.proofs.texts.Bytes.{after_nil, after_other, after_same, lacks, dropped_keeps, dropped_nil}
-use Rattle.data_url.proofs.texts.Bytes.{dropped_passes, without_tabs_and_newlines-append}
-use Rattle.data_url.proofs.texts.Bytes.{first_byte, before-append, before_at, before_nil, before_other, before_same}
 
 -- the row of a byte in a table
 abbrev pub entry_at : List ℕ → ℕ → List ℕ

@@ -1,10 +1,6 @@
 -- Runs of a closure, one after another.
-use Rattle.std.proofs.lemmas.Bool.{cases_Bool}
-use Rattle.std.proofs.Common.{one-add}
-use Rattle.std.proofs.lemmas.Grind.{common_steps}
-use Rattle.std.proofs.Common.{List, [], ◌∷◌, ◌++◌, Option, None, Some, is_some, Result, Ok, Err, refl, ap, sym}
-use Rattle.std.proofs.Common.{◌∙◌, append_assoc, true, inl, inr, ◌⊎◌, arith, append-nil, IsErr, MatchOption, ◌≡◌, ℕ}
-use Rattle.std.{proofs.lemmas.Bool.{false≢true, true≢false}, specs.Option.{option_or}, specs.Result.{result_err}}
+use Rattle.std.proofs.{Common.{List, [], ◌∷◌, ◌++◌, Option, None, Some, is_some, Result, Ok, Err, refl, ap, sym, ◌∙◌, append_assoc, true, inl, inr, ◌⊎◌, arith, append-nil, IsErr, MatchOption, ◌≡◌, ℕ}, lemmas.Bool.{false≢true, true≢false}}
+use Rattle.std.specs.{Option.{option_or}, Result.{result_err}}
 use Rattle.data_url.specs.Run.{Call, IsPrefix, IsRun, joined_pieces, refusal}
 use Rattle.data_url.proofs.forgiving_base64.Padding.{some_not_none}
 

@@ -1,5 +1,4 @@
-use Rattle.std.proofs.Common.{arith, refl, sym, w64, ◌-◌, ◌∙◌}
-use Rattle.std.proofs.lemmas.{Bool.{false≢true}, Nat.Bits.{bit_at-trailing_zeros, bit_at-zero}}
+use Rattle.std.proofs.{Common.{arith, refl, sym, w64, ◌-◌, ◌∙◌}, lemmas.Bool.{false≢true}, lemmas.Nat.Bits.{bit_at-trailing_zeros, bit_at-zero}}
 use Rattle.data_url.proofs.mime.FirstNames.{first_len, found_named, none_unset, one_cleared}
 use Rattle.data_url.proofs.mime.kept.KeptParameters.is_in_row.Goals as goal
 
