@@ -106,6 +106,7 @@ pub(crate) fn end_span(class: Class, bytes: &[u8]) -> usize
 /// How many bytes at the start are in a class, counted in rows of sixteen. This is faster than `span` if there are
 /// many.
 #[inline(always)]
+#[rattlefmt::skip]
 pub(crate) fn long_span(class: Class, bytes: &[u8]) -> usize
     ensures prefix { result ≡ prefix_len (in_class class) bytes.now }
     ensures within { result ≤ length bytes.now }
@@ -113,15 +114,9 @@ pub(crate) fn long_span(class: Class, bytes: &[u8]) -> usize
     // For each low half of a byte, the bits of the columns in which such a byte may be outside the class. A class whose
     // runs are short in most texts has all bits.
     let others = match class {
-        Class::Quotable => [
-            129, 129, 129, 129, 129, 129, 129, 129, 129, 129, 129, 129, 129, 129, 129, 193,
-        ],
-        Class::Unquoted => [
-            129, 129, 129, 129, 129, 129, 129, 129, 129, 129, 129, 133, 129, 129, 129, 193,
-        ],
-        Class::PlainPath => [
-            129, 129, 129, 131, 129, 129, 129, 129, 129, 129, 129, 129, 131, 129, 129, 197,
-        ],
+        Class::Quotable => [129, 129, 129, 129, 129, 129, 129, 129, 129, 129, 129, 129, 129, 129, 129, 193],
+        Class::Unquoted => [129, 129, 129, 129, 129, 129, 129, 129, 129, 129, 129, 133, 129, 129, 129, 193],
+        Class::PlainPath => [129, 129, 129, 131, 129, 129, 129, 129, 129, 129, 129, 129, 131, 129, 129, 197],
         Class::Unescaped => ESCAPED,
         _ => [255; 16],
     };

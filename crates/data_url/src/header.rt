@@ -15,8 +15,6 @@ use std::alloc::{AllocError, Global};
 
 const SUFFIX: [u8; 6] = *b"base64";
 
-const ENCODED_SPACE: &str = "%20";
-
 /// Splits off the space at the end of a path that a query follows; tabs and newlines after the space are skipped.
 /// Returns the path without it, and the space as it is written.
 #[tactic(auto, using(crate::proofs::header::Serialising::last_spaces))]
@@ -28,13 +26,11 @@ fn split_last_space<'a>(path: &'a [u8], query: &[u8]) -> (&'a [u8], &'static str
     if query.is_empty() {
         return (path, "");
     }
-    let Some(space) = (path.len() - end_span(Class::TabOrNewline, path)).checked_sub(1) else {
-        return (path, "");
-    };
-    if path[space] != b' ' {
+    let end = path.len() - end_span(Class::TabOrNewline, path);
+    if end == 0 || path[end - 1] != b' ' {
         return (path, "");
     }
-    (&path[..space], ENCODED_SPACE)
+    (&path[..end - 1], "%20")
 }
 
 /// Returns the text of a header, serialised. Room for a text as long as the header is allocated first, and grows if

@@ -14,8 +14,7 @@ use crate::classes::{Class, end_span, span};
 pub(super) fn without_leading_whitespace(text: &str) -> &str
     ensures { chars result.now ≡ without_start is_http_whitespace (chars text.now) }
 {
-    let len = span(Class::Whitespace, text.as_bytes());
-    &text[len..]
+    &text[span(Class::Whitespace, text.as_bytes())..]
 }
 
 /// The text without HTTP whitespace at its end.
@@ -24,8 +23,7 @@ pub(super) fn without_trailing_whitespace(text: &str) -> &str
     ensures without { chars result.now ≡ without_end is_http_whitespace (chars text.now) }
     ensures bytes { result.now ≡ take (length result.now) text.now }
 {
-    let len = end_span(Class::Whitespace, text.as_bytes());
-    &text[..text.len() - len]
+    &text[..text.len() - end_span(Class::Whitespace, text.as_bytes())]
 }
 
 /// The text after a character, if the text begins with it.

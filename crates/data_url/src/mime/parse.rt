@@ -98,16 +98,10 @@ fn read_parameter(text: &str) -> Parameter<'_>
     ensures rest { chars result.rest.now ≡ (reading_in (chars text.now)).rest }
 {
     let (name, is_token, rest) = split_name(without_leading_whitespace(text));
-    let Some(given) = after_mark(rest, '=') else {
-        let value = Value::Missing;
-        return Parameter {
-            name,
-            is_token,
-            value,
-            rest,
-        };
+    let (value, rest) = match after_mark(rest, '=') {
+        Some(given) => read_value(given),
+        None => (Value::Missing, rest),
     };
-    let (value, rest) = read_value(given);
     Parameter {
         name,
         is_token,
