@@ -117,7 +117,8 @@ module _ {kept : KeptParameters} {len : ℕ} (x : IsIndexed kept)
       found_named s =
           let n' = map to_ascii_lowercase (chars n) in
           list_any_at (λ (p : Pair). bytes_eq p.0 n') (first_of (pairs_of kept)) place ([], [])
-          (omega (arith, first_len)) ((bytes_eq-Decides _ n').1 (key_at ∙ s ∙ ap (map to_ascii_lowercase) (sym same_name)))
+          (omega (arith, first_len))
+          ((bytes_eq-Decides _ n').1 (key_at ∙ s ∙ ap (map to_ascii_lowercase) (sym same_name)))
 
       -- otherwise, the bit of this place, which is the lowest, is cleared
       pub one_cleared : {at left t : ℕ} → NoneUnset (map to_ascii_lowercase (chars n)) (first_of (pairs_of kept)) at

@@ -139,12 +139,6 @@ pub cut_front : (p : ℕ → Bool) → IsSteady p → (bs : List ℕ) → IsUtf8
 cut_front p s bs u = cut_into bs _ _ (prefix_len p bs) u (sym (take-append-drop (prefix_len p (chars bs)) (chars bs)))
     (ap (prefix_len p) (sym (encodes-chars bs u)) ∙ front_encodes p s (chars bs))
 
--- the parts of a UTF-8 text that is cut there, as code points
-pub cut_by : {p : ℕ → Bool} {bs bytes front after : List ℕ} {n : ℕ} → IsSteady p → IsUtf8 bs → n ≡ prefix_len p bytes
-    → bytes ≡ bs → front ≡ take n bs → after ≡ drop n bs
-    → (chars front ≡ front_of p (chars bs)) × (chars after ≡ without_start p (chars bs))
-cut_by {p = p} {bs = bs} s u e b f g = grind (arith, cut_front)
-
 -- a text of no bytes has no code points
 pub no_chars : (bs : List ℕ) → length bs ≡ 0 → chars bs ≡ []
 no_chars [] e = chars-nil

@@ -97,10 +97,10 @@ impl KeptParameters {
         let place = self.pairs.len();
         if place < LOOKED_THROUGH {
             self.fingerprints[place] = fingerprint(name.as_str());
-        } else if !self.later_names.insert(name.clone()?)? {
-            return Ok(());
+            self.pairs.push((name, value))?;
+        } else if self.later_names.insert(name.clone()?)? {
+            self.pairs.push((name, value))?;
         }
-        self.pairs.push((name, value))?;
         Ok(())
     }
 }
