@@ -11,7 +11,8 @@ pub returns-in_ok-push : goal.returns-in_ok-push
 returns-in_ok-push c =
     let old = c.args.self.now in
     let bytes = set old.fingerprints c.len-place.result c.fingerprint.result in
-    let kept : KeptParameters = record { pairs = c.push.new.self; fingerprints = bytes; later_names = old.later_names } in
+    let later = old.later_names in
+    let kept : KeptParameters = record { pairs = c.push.new.self; fingerprints = bytes; later_names = later } in
     let r = pushed_first c.args.name c.args.value c.requires.indexed c.requires.lower c.requires.new kept _ _
     (omega arith) c.if-place-lt-LOOKED_THROUGH.true c.in_ok-push.ensures.items
     (c.fingerprint.ensures ∙ ap (λ s. fingerprint_of (map to_ascii_lowercase s)) c.as_str.ensures.value) refl refl in
