@@ -1,6 +1,5 @@
 pub mod TokenTexts
 pub mod Items
 pub mod Parsing
-pub mod Escapes
 pub mod FirstNames
 pub mod RoundTrips

@@ -1,8 +1,7 @@
 use Rattle.std.proofs.Common.{arith}
 use Rattle.std.specs.Str.{chars}
-use Rattle.data_url.proofs.mime.Parsing.{parameter_by}
+use Rattle.data_url.proofs.{mime.Parsing.{parameter_by}, mime.parse.read_parameter.Goals.{in-Some, in-None}}
 use Rattle.data_url.proofs.mime.parse.read_parameter.Goals as goal
-use Rattle.data_url.proofs.mime.parse.read_parameter.Goals.{in-Some, in-None}
 
 pub returns-clause-pair : goal.returns-clause-pair
 returns-clause-pair c =

@@ -1,4 +1,4 @@
-use Rattle.data_url.proofs.mime.Escapes.{quoting_first, quoting_next}
+use Rattle.data_url.proofs.mime.TokenTexts.{quoting_first, quoting_next}
 use Rattle.data_url.proofs.mime.parse.split_quote.Goals as goal
 
 pub loop-place-init : goal.loop-place-init
