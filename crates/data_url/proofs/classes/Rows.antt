@@ -139,8 +139,7 @@ module _ (others bytes : List ℕ) (at : ℕ) {row : List ℕ} {b : Bool} (h : L
       let p : ℕ → Bool = is_marked others in
       let long = length-take-le 16 (drop at bytes) (omega (arith, length-drop {A = ℕ})) in
       let some : 0 < mask_l (map p found) = grind (arith, row_mask, t) in
-      let counted : n ≡ prefix_len (λ x. not (p x)) found =
-      f ∙ ap (λ v. count_trailing_zeros 64 (mask_l (map p v))) r ∙ trailing_mask_l p 64 found (omega arith) some in
+      let counted : n ≡ prefix_len (λ x. not (p x)) found = grind (arith, count_trailing_zeros, trailing_mask_l) in
       let few = prefix_len-le-length (λ x. not (p x)) found in
       let before = run_in_chunk_fails p bytes at 16 n 0 room counted in
       let all : AreOf others bytes (at + n) = λ k l. ⊎_elim (h.front k) (λ (m : at ≤ k). before k m l) (cases_lt k at)

@@ -85,8 +85,7 @@ other_last z c ne = no_word (z ++ c ∷ []) (λ e.
     let s = z ++ c ∷ [] in
     let n = length s - 6 in
     let six : length (drop n s) ≡ 6 = sym (length-map (drop n s) to_ascii_lowercase) ∙ ap length e in
-    let here : get_or (drop n s) 5 0 ≡ c =
-    grind (arith, length-drop, length-append, get_or-drop n s 5 0, get_or_at z c [] 0 (length z) refl) in
+    let here : get_or (drop n s) 5 0 ≡ c = grind (arith, length-drop, length-append, get_or-drop, get_or_at) in
     absurd (grind (arith, get_or-map to_ascii_lowercase (drop n s) 5 0 0)))
 
 -- neither has a header, if this byte is no space

@@ -253,15 +253,7 @@ pub is_url_of : (t rest header : List ℕ) (u : DataUrl) → IsBytes (trimmed_te
     → IsHeaderOf (header_text (without_tabs_and_newlines header)) (record_of (mime_of u)) (is_base64 u) → IsUrlOf t u
 is_url_of t rest header u b s h k =
     let a = is_accepted t rest header (url_tail u) (rest_bytes t rest b s) s h in
-    record {
-      header = header_text (without_tabs_and_newlines header);
-      header_is = a.stages.header_is;
-      record_is = k.record_is.is_record;
-      wellformed = k.record_is.wellformed;
-      base64_is = k.base64_is;
-      tail_is = a.tail_is;
-      staged_is = stages_accepted t rest header (url_tail u) b s h (is_base64 u) k.base64_is;
-    }
+    grind (arith, stages_accepted t rest header (url_tail u) b s h (is_base64 u) k.base64_is)
 
 -- if each number of a text is below 256, the trimmed text is a text of bytes
 pub bytes_trimmed : (t : List ℕ) → ((i : ℕ) → get_or t i 0 < 256) → IsBytes (trimmed_text t)
@@ -307,9 +299,7 @@ url_parts t u b h = elim (none_or_some (after_scheme t)) [
       let cut = is_cut 44 a (without_tabs_and_newlines (url_tail u)) k.1 in
       elim (none_or_some (after 44 (front a))) [
         | inl n ↦ absurd (cc (no_header t a e bytes n, h.header_is))
-        | inr (x, y) ↦
-            let first = comma_first a x y in
-            record { rest = a; header = before 44 a; rest_is = e; bytes = bytes; parts = search (arith, cut, first) }
+        | inr (x, y) ↦ grind (arith, comma_first)
       ]
 ]
 

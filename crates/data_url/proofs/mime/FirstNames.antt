@@ -114,10 +114,7 @@ module _ (bytes : List ℕ) (pairs : List Pair) (p : Pair) (room : length bytes 
       let old : take place bytes ≡ map (λ (q : Pair). fingerprint_of q.0) pairs =
       ap (λ n. take n bytes) e ∙ ap (λ (qs : List Pair). take (length qs) bytes) (sym before) ∙ h
       ∙ ap (λ (qs : List Pair). map (λ (q : Pair). fingerprint_of q.0) qs) before in
-      rw after (cc (
-        take_more_set bytes place b (omega arith),
-        map-append (λ (q : Pair). fingerprint_of q.0) pairs (p ∷ []),
-      ))
+      grind (arith, take_more_set, map-append)
 
   -- if it comes after the first ones, the fingerprints stay the same
   pub alike_later : LOOKED_THROUGH ≤ length pairs
@@ -147,8 +144,7 @@ module _ {kept : KeptParameters} {len : ℕ} (x : IsIndexed kept)
   fingerprint_at k l =
       let first = first_of (pairs_of kept) in
       let within : k < length first = omega (arith, first_len) in
-      sym (get_or-take (length first) kept.fingerprints k 0 within) ∙ ap (λ s. slice_index s k) x.alike
-      ∙ get_or-map (λ (p : Pair). fingerprint_of p.0) first k ([], []) 0 within
+      grind (arith, get_or-take (length first) kept.fingerprints k 0 within, get_or-map)
 
   module _ {n : List ℕ} {b : ℕ} (u : IsUtf8 n) (h : is_token_text (chars n) ≡ true)
       (f : b ≡ fingerprint_of (map to_ascii_lowercase n)) where
@@ -189,9 +185,7 @@ module _ {kept : KeptParameters} {len : ℕ} (x : IsIndexed kept)
           → has_name (map to_ascii_lowercase (chars n)) (first_of (pairs_of kept)) ≡ true
       found_named s =
           let n' = map to_ascii_lowercase (chars n) in
-          list_any_at (λ (p : Pair). bytes_eq p.0 n') (first_of (pairs_of kept)) place ([], [])
-          (omega (arith, first_len))
-          ((bytes_eq-Decides _ n').1 (key_at ∙ s ∙ ap (map to_ascii_lowercase) (sym same_name)))
+          grind (arith, list_any_at, first_len, bytes_eq-Decides, key_at, same_name)
 
       -- otherwise, the bit of this place, which is the lowest, is cleared
       pub one_cleared : {at left t : ℕ} → NoneUnset (map to_ascii_lowercase (chars n)) (first_of (pairs_of kept)) at
@@ -265,10 +259,7 @@ keeps_more {whole} {rest} {s} {pairs = pairs} k e p r a =
     let added = added_pairs pairs (item_in s) in
     let all = first_of_each_name (pairs ++ added) left in
     let before = (subst (λ x. KeepsOn whole x pairs) (mark_is 59 rest s e) k).kept in
-    rw r (record {
-      begins = begins;
-      kept = cc (first_step pairs (item_in s) left, append_assoc pairs added all);
-    })
+    grind (arith, first_step pairs (item_in s) left, append_assoc pairs added all)
 
 -- if the rest does not begin with ';', the pairs are those that are kept of the items of the whole text
 pub keeps_end : {whole rest : List ℕ} {pairs : List Pair} → KeepsOn whole rest pairs → BeginsParameters whole
@@ -313,8 +304,7 @@ module _ {old : KeptParameters} (name value : String Global) (x : IsIndexed old)
         → (pairs_of kept ≡ pairs_of old ++ unless_named (pairs_of old) (pair_of (name, value) ∷ [])) × IsIndexed kept
     pushed_first kept place b i l e g s f =
         let len = length-map old.pairs.items (λ q. pair_of q) in
-        let its : b ≡ fingerprint_of (code_points name) = g ∙ ap fingerprint_of
-        (ap (map to_ascii_lowercase) (lowercase_bytes name lower) ∙ lower_is_itself (code_points name) lower) in
+        let its : b ≡ fingerprint_of (code_points name) = grind (arith, lowercase_bytes, lower_is_itself) in
         pushes kept (first_or_later (code_points name) (pairs_of old) ∙ ap₂ (λ a b. a || b) new
         (few_names (code_points name) (pairs_of old) (omega arith)))
         e (ap length s ∙ length-set old.fingerprints place b ∙ x.room)

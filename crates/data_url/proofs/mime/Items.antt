@@ -86,8 +86,7 @@ is_given_reading : (s : List ℕ) → IsReading (61 ∷ s) (given_reading s)
 is_given_reading [] = is_plain_reading [] tt
 is_given_reading (c ∷ s) = elim (c == 34) as (λ v. (c == 34) ≡ v → IsReading (61 ∷ c ∷ s) (reading_from (c ∷ s)
     (cond v (Some s) None))) [
-      | true ↦ λ e. subst (λ d. IsReading (61 ∷ d ∷ s) (quoted_reading s)) (sym (eqb-true c 34 e)) (is_quoted_reading s
-          (is_read false s))
+      | true ↦ grind (arith, eqb-true, is_quoted_reading s (is_read false s), is_read false s)
       | false ↦ λ e. is_plain_reading (c ∷ s) e
     ] refl
 
@@ -117,17 +116,7 @@ has_parameter s =
     record {
       text = 59 ∷ (gap ++ (name ++ i.tail));
       joined = grind (arith, take-append-drop, append_assoc, i.joined);
-      is_parameter = record {
-        gap = gap;
-        name = name;
-        tail = i.tail;
-        joined = refl;
-        in_gap = front_passes is_http_whitespace s;
-        begins = not_begins_front is_http_whitespace in_name x (after_begins is_http_whitespace s);
-        in_name = front_passes in_name x;
-        name_is = refl;
-        value_is = i.gives;
-      };
+      is_parameter = grind (arith, front_passes, not_begins_front, after_begins);
       begins = i.begins;
     }
 

@@ -95,11 +95,7 @@ module _ (bs : List ℕ) (n : ℕ) (u : IsUtf8 bs) (e : n ≡ prefix_len is_toke
       let long : length (take n bs) ≡ n = length-take-le n bs (omega (arith, prefix_len-le-length is_token bs)) in
       let tokens = subst (λ k. Every is_token (take k bs)) (sym e) (front_passes is_token bs) in
       let token = nonempty_tokens (take n bs) tokens (λ k. absurd (omega (arith, ap length k, z))) in
-      record {
-        front = cc (cut.front);
-        after = cc (cut.after);
-        token = cc (chars-IsAscii (take n bs) (token_text_ascii (take n bs) token));
-      }
+      grind (arith, chars-IsAscii, token_text_ascii)
 
 -- the lemmas for texts of token code points
 pub ruleset tokens = (tokens_steady, cut_front, chars-nil, token_text_by, some_tokens)

@@ -127,11 +127,7 @@ cut_into bs xs ys n u e l =
     let a = encode_utf8_all xs in
     let b = encode_utf8_all ys in
     let whole : bs ≡ a ++ b = cc (encodes-chars bs u, encodes-append xs ys) in
-    rw (l, whole) (record {
-      boundary = IsCharBoundary-at_seam (a ++ b) a b refl (ys, (k.1, refl));
-      front = ap chars (take-append_seam a b) ∙ chars-encodes xs k.0;
-      after = ap chars (drop-append_seam a b) ∙ chars-encodes ys k.1;
-    })
+    grind (arith, IsCharBoundary-at_seam, take-append_seam, chars-encodes, drop-append_seam)
 
 -- a UTF-8 text can be cut after its longest prefix that passes
 pub cut_front : (p : ℕ → Bool) → IsSteady p → (bs : List ℕ) → IsUtf8 bs
