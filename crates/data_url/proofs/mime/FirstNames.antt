@@ -91,8 +91,7 @@ module _ (bytes : List ℕ) (at b : ℕ) {bits : ℕ} (l : at + 16 ≤ length by
 lowest : (n k : ℕ) → bit_at n k ≡ 1 → bit_at (n - 1) k ≡ 0 → (i : ℕ) → i < k → bit_at n i ≡ 0
 lowest n zero h z i l = absurd (omega arith)
 lowest n (suc k) h z zero l = grind (arith, bit_at-suc n k, bit_at-suc (n - 1) k, bit_at_lowest n)
-lowest n (suc k) h z (suc i) l =
-    grind (arith, bit_at-suc n k, bit_at-suc (n - 1) k, bit_at-suc n i, lowest (n / 2) k)
+lowest n (suc k) h z (suc i) l = grind (arith, bit_at-suc, lowest (n / 2) k)
 
 -- a bit that is set in n, and not in n & (n - 1), is the lowest one
 pub cleared : {n k t : ℕ} → n ≢ 0 → n < 2 ^ 64 → t ≡ count_trailing_zeros 64 n → bit_at n k ≡ 1
@@ -111,9 +110,7 @@ module _ (bytes : List ℕ) (pairs : List Pair) (p : Pair) (room : length bytes 
       let after : first_of (pairs ++ (p ∷ [])) ≡ pairs ++ (p ∷ []) =
       take_all LOOKED_THROUGH (pairs ++ (p ∷ [])) (simp length-append (omega arith)) in
       let long : length (pairs ++ (p ∷ [])) ≡ place + 1 = simp length-append (omega arith) in
-      let old : take place bytes ≡ map (λ (q : Pair). fingerprint_of q.0) pairs =
-      ap (λ n. take n bytes) e ∙ ap (λ (qs : List Pair). take (length qs) bytes) (sym before) ∙ h
-      ∙ ap (λ (qs : List Pair). map (λ (q : Pair). fingerprint_of q.0) qs) before in
+      let old : take place bytes ≡ map (λ (q : Pair). fingerprint_of q.0) pairs = grind arith in
       grind (arith, take_more_set, map-append)
 
   -- if it comes after the first ones, the fingerprints stay the same
@@ -183,9 +180,7 @@ module _ {kept : KeptParameters} {len : ℕ} (x : IsIndexed kept)
       -- if its key is the name in any ASCII case, one of the pairs has the name
       pub found_named : map to_ascii_lowercase key ≡ map to_ascii_lowercase n
           → has_name (map to_ascii_lowercase (chars n)) (first_of (pairs_of kept)) ≡ true
-      found_named s =
-          let n' = map to_ascii_lowercase (chars n) in
-          grind (arith, list_any_at, first_len, bytes_eq-Decides, key_at, same_name)
+      found_named s = grind (arith, list_any_at, first_len, bytes_eq-Decides, key_at, same_name)
 
       -- otherwise, the bit of this place, which is the lowest, is cleared
       pub one_cleared : {at left t : ℕ} → NoneUnset (map to_ascii_lowercase (chars n)) (first_of (pairs_of kept)) at
