@@ -63,8 +63,6 @@ unfolding before_base64
 suffix_there z w e =
     let size : length w ≡ 6 = sym (length-map w to_ascii_lowercase) ∙ ap length e in
     let split = append_assoc z (59 ∷ []) w in
-    let front : before_word (z ++ 59 ∷ w) ≡ Some (z ++ 59 ∷ []) =
-    grind (arith, bytes_eq-Decides, last_after, before_last_after, append-nil) in
     let stop = suffix_stop is_space z [] 59 refl in grind (arith, take_all, last_after, before_last_after, append-nil)
 
 -- the last byte of the word is no space

@@ -49,8 +49,7 @@ before_one s n l = grind (arith, length-take-le, take-take)
 -- if the byte before the spaces and the word is not ';', there is no base64 suffix
 pub no_semicolon : (s : List ℕ) (n spaces m : ℕ) → IsPrintable s → HasWord s n spaces → n - spaces ≡ m + 1
     → get_or s m 0 ≢ 59 → before_base64 s ≡ None
-no_semicolon s n spaces m p h e ne =
-    let one = last_one s m (omega (arith, h.six)) in grind (arith, after_word s n spaces p h, bytes_eq-Decides)
+no_semicolon s n spaces m p h e ne = grind (arith, last_one, after_word s n spaces p h, bytes_eq-Decides)
 
 -- if the byte before the spaces and the word is a ';' at index m, the text before the suffix is the first m bytes
 pub with_semicolon : (s : List ℕ) (n spaces m : ℕ) → IsPrintable s → HasWord s n spaces → n - spaces ≡ m + 1

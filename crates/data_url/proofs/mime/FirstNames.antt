@@ -110,7 +110,6 @@ module _ (bytes : List ℕ) (pairs : List Pair) (p : Pair) (room : length bytes 
       let after : first_of (pairs ++ (p ∷ [])) ≡ pairs ++ (p ∷ []) =
       take_all LOOKED_THROUGH (pairs ++ (p ∷ [])) (simp length-append (omega arith)) in
       let long : length (pairs ++ (p ∷ [])) ≡ place + 1 = simp length-append (omega arith) in
-      let old : take place bytes ≡ map (λ (q : Pair). fingerprint_of q.0) pairs = grind arith in
       grind (arith, take_more_set, map-append)
 
   -- if it comes after the first ones, the fingerprints stay the same
@@ -253,7 +252,6 @@ keeps_more {whole} {rest} {s} {pairs = pairs} k e p r a =
     let left = valid_pairs (items_in (length s) next) in
     let added = added_pairs pairs (item_in s) in
     let all = first_of_each_name (pairs ++ added) left in
-    let before = (subst (λ x. KeepsOn whole x pairs) (mark_is 59 rest s e) k).kept in
     grind (arith, first_step pairs (item_in s) left, append_assoc pairs added all)
 
 -- if the rest does not begin with ';', the pairs are those that are kept of the items of the whole text

@@ -139,8 +139,7 @@ parameter_is s text rest item h e b =
     let x = front_is is_http_whitespace h.gap (h.name ++ more) h.in_gap
     (not_begins_append is_http_whitespace h.name more h.begins ends) in
     let y = front_is in_name h.name more h.in_name (ends_of_tail in_name refl refl h.tail rest item.1 h.value_is b) in
-    let r = reading_is h.tail rest item.1 h.value_is b in
-    grind (arith, h.name_is)
+    grind (arith, reading_is, h.name_is)
 
 -- the items of a text, of which each parameter has a code point; at most n items
 abbrev pub items_in : ℕ → List ℕ → List Item
@@ -236,6 +235,5 @@ pub has_at_most_one_record : (s : List ℕ) → HasAtMostOneRecord s
 has_at_most_one_record s m n h k =
     let p = has_parts s h.type_ h.subtype h.parameters h.head in
     let q = has_parts s k.type_ k.subtype k.parameters k.head in
-    let a = items_are (length h.parameters) h.parameters h.record_is.items (omega arith) h.record_is.items_are in
     let b = items_are (length k.parameters) k.parameters k.record_is.items (omega arith) k.record_is.items_are in
-    grind (arith, h.record_is, k.record_is)
+    grind (arith, items_are, h.record_is, k.record_is)

@@ -94,16 +94,10 @@ module _ (bs : List ℕ) (n : ℕ) (u : IsUtf8 bs) (e : n ≡ prefix_len is_toke
       let cut = cut_front is_token tokens_steady bs u in
       let long : length (take n bs) ≡ n = length-take-le n bs (omega (arith, prefix_len-le-length is_token bs)) in
       let tokens = subst (λ k. Every is_token (take k bs)) (sym e) (front_passes is_token bs) in
-      let token = nonempty_tokens (take n bs) tokens (λ k. absurd (omega (arith, ap length k, z))) in
-      grind (arith, chars-IsAscii, token_text_ascii)
+      grind (arith, nonempty_tokens, chars-IsAscii, token_text_ascii)
 
 -- the lemmas for texts of token code points
 pub ruleset tokens = (tokens_steady, cut_front, chars-nil, token_text_by, some_tokens)
-
--- a token code point does not end a name
-token_in_name : (c : ℕ) → is_token c ≡ true → in_name c ≡ true
-unfolding is_token
-token_in_name c h = grind (arith, common_steps, token_below)
 
 -- the first n items of a text pass exactly if its longest prefix that passes has n or more
 front_all : (p : ℕ → Bool) (n : ℕ) (s : List ℕ) → n ≤ length s → list_all p (take n s) ≡ nat_le n (prefix_len p s)
@@ -116,7 +110,9 @@ module _ {text bytes : List ℕ} {tokens more : ℕ} (u : IsUtf8 text) (e : byte
     (drop tokens bytes))) where
   -- the name is its longest prefix of token code points, and what follows up to the first ';' or '='
   name_length : tokens + more ≡ prefix_len in_name text
-  name_length = grind (arith, token_in_name, prefix_len_passes, take_rest, front_further, prefix_len-le-length)
+  unfolding is_token
+  name_length =
+      grind (arith, common_steps, token_below, prefix_len_passes, take_rest, front_further, prefix_len-le-length)
 
   -- a UTF-8 text can be cut after the name
   pub cut_name : IsCutInto text (tokens + more) (front_of in_name (chars text)) (without_start in_name (chars text))
@@ -130,7 +126,6 @@ module _ {text bytes : List ℕ} {tokens more : ℕ} (u : IsUtf8 text) (e : byte
       let long : length name ≡ tokens + more = ap length h ∙ length-take-le (tokens + more) text within in
       let all : list_all is_token name ≡ nat_le (tokens + more) (prefix_len is_token text) =
       ap (list_all is_token) h ∙ front_all is_token (tokens + more) text within in
-      let all' = whole_front is_token name in
       let token = token_text_is name in
       let chars' = token_text_chars name w in
       grind arith

@@ -191,15 +191,11 @@ RecodedTails None (Some y) = ⊥
 RecodedTails (Some t) None = ⊥
 RecodedTails (Some t) (Some y) = Recoded t y
 
--- a percent-encoded byte at the front does not change what follows the first comma
-after_written : (b : ℕ) (x : List ℕ) → after 44 (37 ∷ hex_digit (b / 16) ∷ hex_digit (b % 16) ∷ x) ≡ after 44 x
-after_written b x = grind (arith, after_other)
-
 -- if x is s with some bytes encoded, so are the texts after the first comma of both, or neither has a comma
 pub recoded_tails : {s x : List ℕ} → Recoded s x → RecodedTails (after 44 s) (after 44 x)
 recoded_tails none = grind (arith, after_nil)
 recoded_tails (kept {s} {x} b r) = grind (arith, after_same, after_other, recoded_tails r)
-recoded_tails (written {s} {x} b h l r) = grind (arith, after_other, ne_eqb, both_ways, after_written, recoded_tails r)
+recoded_tails (written {s} {x} b h l r) = grind (arith, after_other, ne_eqb, both_ways, recoded_tails r)
 
 -- if a set does not have the comma, cutting at the first comma and encoding can be done in either order
 before_encoded : (p : ℕ → Bool) → p 44 ≡ false → (s : List ℕ) → before 44 (percent_encoding p s) ≡ percent_encoding p

@@ -123,11 +123,10 @@ pub record IsCutInto (bs : List ℕ) (n : ℕ) (xs ys : List ℕ) : Type 0 where
 pub cut_into : (bs xs ys : List ℕ) (n : ℕ) → IsUtf8 bs → chars bs ≡ xs ++ ys → n ≡ length (encode_utf8_all xs)
     → IsCutInto bs n xs ys
 cut_into bs xs ys n u e l =
-    let k = scalars_parts xs ys (ap all_scalars (sym e) ∙ scalars-chars bs u) in
     let a = encode_utf8_all xs in
     let b = encode_utf8_all ys in
     let whole : bs ≡ a ++ b = cc (encodes-chars bs u, encodes-append xs ys) in
-    grind (arith, IsCharBoundary-at_seam, take-append_seam, chars-encodes, drop-append_seam)
+    grind (arith, scalars_parts, IsCharBoundary-at_seam, take-append_seam, chars-encodes, drop-append_seam)
 
 -- a UTF-8 text can be cut after its longest prefix that passes
 pub cut_front : (p : ℕ → Bool) → IsSteady p → (bs : List ℕ) → IsUtf8 bs
