@@ -1,7 +1,7 @@
 -- Whether a header has the suffix ";base64", from its end. For callers that know only this end.
-use Rattle.std.proofs.{lemmas.Grind.{common_steps}, Common.{None, Some, ap, ◌∙◌, arith, Bool, true, false, ◌++◌, length-append, refl, sym, inl, inr, append_assoc, append-nil, ◌==◌, ◌≡◌, ◌≢◌, ℕ, ◌+◌, ◌-◌, ◌≤◌, List, [], ◌∷◌, length, get_or, take, drop, map, codes, get_or-drop, eqb-true, take_all, length-drop, take-append-drop, ◌%◌, ◌/◌, Option}, lemmas.Bool.{and_parts, cases_Bool}, lemmas.List.{drop-append-le, drop_all, drop_more, get_or-map, get_or_at, length-map}, lemmas.List.Folds.{prefix_len-append}, lemmas.List.Sums.{prefix_len-le-length}, lemmas.Slice.Eq.{bytes_eq-Decides}}
+use Rattle.std.proofs.{lemmas.Grind.{common_steps}, Common.{None, Some, ap, ◌∙◌, arith, Bool, true, false, ◌++◌, length-append, refl, sym, inl, inr, append_assoc, append-nil, ◌==◌, ◌≡◌, ◌≢◌, ℕ, ◌+◌, ◌-◌, ◌≤◌, List, [], ◌∷◌, length, get_or, take, drop, map, codes, get_or-drop, eqb-true, take_all, length-drop, take-append-drop, ◌%◌, ◌/◌, Option}, lemmas.Bool.{and_parts, cases_Bool}, lemmas.List.{drop-append-le, drop_all, drop_more, get_or-map, get_or_at, length-map}, lemmas.List.Folds.{prefix_len-append}, lemmas.List.Sums.{prefix_len-le-length}}
 use Rattle.std.specs.{Char.{to_ascii_lowercase}, Prelude.{◌&&◌, ◌||◌, not}, List.{list_all, suffix_len}}
-use Rattle.data_url.specs.{Fetch.{before_base64, before_word, has_base64_suffix, is_space, stripped_header}, Steps.Header.{header_text}, Steps.Split.{is_plain_path}, Url.{encoded_byte, hex_digit, in_path_set, in_query_set, is_tab_or_newline, percent_encoding, without_start, without_tabs_and_newlines}}
+use Rattle.data_url.specs.{Fetch.{before_base64, has_base64_suffix, is_space, stripped_header}, Steps.Header.{header_text}, Steps.Split.{is_plain_path}, Url.{encoded_byte, hex_digit, in_path_set, in_query_set, is_tab_or_newline, percent_encoding, without_start, without_tabs_and_newlines}}
 use Rattle.data_url.proofs.{split.Cuts.{cut_at}, header.Serialising.{before_last_after, last_after, no_word, suffix_stop, word}, percent.Encoding.{encoded_cons, encoded_nil, header_byte_set, header_nil, header_path, header_query, percent_encoding-append}, texts.Bytes.{after_nil, dropped_keeps, dropped_nil, without_tabs_and_newlines-append}}
 
 -- a byte that is serialised as it is in a path and in a query, also at the end

@@ -1,7 +1,7 @@
 -- A text has one list of items, and at most one record.
-use Rattle.std.proofs.{Common.{Some, length, refl, sym, ap, ◌∙◌, subst, append_assoc, append-nil, arith, drop, take, one-add, ◌+◌, length-append, eqb-true, take-append-drop, ◌≡◌, ℕ, zero, suc, ◌≤◌, ◌==◌, Bool, false, cond, List, [], ◌∷◌, ◌++◌, Option, true, None}, lemmas.Bool.{not-false}}
+use Rattle.std.proofs.{lemmas.Bool.{cases_Bool, not-false}, Common.{inl, inr, Some, length, refl, sym, ap, ◌∙◌, append_assoc, append-nil, arith, drop, take, one-add, ◌+◌, length-append, eqb-true, take-append-drop, ◌≡◌, ℕ, zero, suc, ◌≤◌, ◌==◌, Bool, false, cond, List, [], ◌∷◌, ◌++◌, Option, true, None}}
 use Rattle.std.specs.List.{prefix_len}
-use Rattle.data_url.specs.{CodePoints.{is_http_whitespace, is_token}, Mime.{BeginsParameters, DoesNotBegin, Every, GivesValue, IsParameter, Item, Items, is_quote, lone_equals, nothing, plain, quoted, unclosed, unless_empty, IsHead}, Steps.Parsing.{Reading, after_mark, front_of, given_reading, in_name, in_value, item_in, named, plain_reading, quoted_reading, reading, reading_from, reading_in}, Url.{without_end, without_start}}
+use Rattle.data_url.specs.{CodePoints.{is_http_whitespace, is_token}, Mime.{BeginsParameters, DoesNotBegin, Every, GivesValue, IsParameter, Item, Items, is_quote, lone_equals, nothing, plain, quoted, unclosed, unless_empty, IsHead}, Steps.Parsing.{Reading, after_mark, front_of, given_reading, in_name, in_value, item_in, named, plain_reading, quoted_reading, reading, reading_in}, Url.{without_end, without_start}}
 use Rattle.data_url.proofs.{facts.Definitions.{HasOneItemList, HasAtMostOneRecord}, mime.TokenTexts.{IsRead, closed_reading, is_closed, is_open, is_read, open_reading, every_token}, texts.CodePoints.{after_begins, front_is, front_passes}}
 
 -- if ';' does not pass, a text that is empty or begins with ';' does not begin with a code point that passes
@@ -84,20 +84,18 @@ is_plain_reading s h =
 -- '=' and any text give the value that is read from the text
 is_given_reading : (s : List ℕ) → IsReading (61 ∷ s) (given_reading s)
 is_given_reading [] = is_plain_reading [] tt
-is_given_reading (c ∷ s) = elim (c == 34) as (λ v. (c == 34) ≡ v → IsReading (61 ∷ c ∷ s) (reading_from (c ∷ s)
-    (cond v (Some s) None))) [
-      | true ↦ grind (arith, eqb-true, is_quoted_reading s (is_read false s), is_read false s)
-      | false ↦ λ e. is_plain_reading (c ∷ s) e
-    ] refl
+is_given_reading (c ∷ s) = elim (cases_Bool (c == 34)) [
+  | inl e ↦ rw (eqb-true c 34 e) (is_quoted_reading s (is_read false s))
+  | inr e ↦ rw e (is_plain_reading (c ∷ s) e)
+]
 
 -- reading a text that is empty or begins with ';' or '=' returns a value that it gives, and the rest
 pub is_reading : (x : List ℕ) → DoesNotBegin in_name x → IsReading x (reading_of x)
 is_reading [] h = record { tail = []; joined = refl; gives = nothing; begins = tt }
-is_reading (c ∷ s) h = elim (c == 61) as (λ v. (c == 61) ≡ v → IsReading (c ∷ s) (reading (c ∷ s) (cond v
-    (Some s) None))) [
-      | true ↦ λ e. subst (λ d. IsReading (d ∷ s) (given_reading s)) (sym (eqb-true c 61 e)) (is_given_reading s)
-      | false ↦ λ e. record { tail = []; joined = refl; gives = nothing; begins = grind arith }
-    ] refl
+is_reading (c ∷ s) h = elim (cases_Bool (c == 61)) [
+  | inl e ↦ rw (eqb-true c 61 e) (is_given_reading s)
+  | inr e ↦ rw e (record { tail = []; joined = refl; gives = nothing; begins = grind arith })
+]
 
 -- ';' and s are a parameter with this item, and then the rest
 pub record HasParameterBefore (s : List ℕ) (item : Item) (rest : List ℕ) : Type 0 where

@@ -20,15 +20,12 @@ plain_chars : (cs : List ℕ) → Without is_escaped cs → flat_map escaped_cod
 plain_chars [] h = refl
 plain_chars (c ∷ cs) h = grind (arith, plain_chars cs h.1)
 
--- a text without '"' and '\' is the UTF-8 of its escaped code points
-pub plain_text : (v : List ℕ) → IsUtf8 v → Without is_escaped (chars v)
-    → v ≡ encode_utf8_all (flat_map escaped_code_point (chars v))
-plain_text v u h = grind (arith, encodes-chars, encode_utf8_all, plain_chars)
-
--- so it is if as many bytes as it has pass at its front
+-- a text that has as many bytes other than '"' and '\' at its front as bytes is the UTF-8 of its escaped code points
 pub plain_copy : (v bytes : List ℕ) (n : ℕ) → IsUtf8 v → bytes ≡ v → n ≡ prefix_len (λ c. not (is_escaped c)) bytes
     → n ≡ length v → v ≡ encode_utf8_all (flat_map escaped_code_point (chars v))
-plain_copy v bytes n u e f g = plain_text v u (whole_passes _ unescaped_steady v bytes n u e f g)
+plain_copy v bytes n u e f g =
+    let passes = whole_passes _ unescaped_steady v bytes n u e f g in
+    grind (arith, encodes-chars, encode_utf8_all, plain_chars)
 
 -- a token text is printed as it is
 pub token_value_text : (v : List ℕ) (b : Bool) → IsUtf8 v → b ≡ is_token_text (chars v) → b ≡ true

@@ -375,15 +375,11 @@ pair_quoted [] n e = rw e refl
 pair_quoted (c ∷ s) n e = let one : n ≡ 1 = omega arith in rw one (omega arith)
 
 -- if the closing quote is not before a place, it is not before the first '"' or '\' from there on
-quoting_from : (bytes : List ℕ) (from m place : ℕ) → from ≤ length bytes
+pub quoting_from : (bytes : List ℕ) (from m place : ℕ) → from ≤ length bytes
     → from + quoted_len false (drop from bytes) ≡ quoted_len false bytes → m ≡ prefix_len plain (drop from bytes)
     → place ≡ from + m → Quoting bytes place
 quoting_from bytes from m place l h f e =
     grind (arith, prefix_len-le-length, length-drop, prefix_len_stops, get_or-drop, plain_quoted, drop-drop, not-false)
-
--- at the start
-pub quoting_first : (bytes : List ℕ) (n : ℕ) → n ≡ prefix_len plain bytes → Quoting bytes n
-quoting_first bytes n f = quoting_from bytes 0 n n (omega arith) (omega arith) f (omega arith)
 
 -- after a '\' and the byte that follows it
 pub quoting_next : (bytes : List ℕ) (place from m : ℕ) → Quoting bytes place → place < length bytes

@@ -1,7 +1,7 @@
 -- Percent-encoding with the rows of a table, and decoding of encoded texts. For `push_encoded`.
 use Rattle.std.proofs.{lemmas.Grind.{common_steps, flat_map-append}, Common.{append_assoc, ◌≡◌, ℕ, ◌*◌, ◌+◌, ◌-◌, ◌<◌, ◌&&◌, ◌||◌, Bool, false, true, List, [], ◌∷◌, length, take, drop, refl, ◌/◌, ◌%◌, ◌++◌, Option, None, Some, sym, ap, ◌∙◌, inl, inr, length-take-le, take-take, subst, append-nil, arith, suc, ◌≤◌, get_or, ◌==◌, slice_index, nat_lt, take_all}, lemmas.Slice.Eq.{bytes_eq-Decides}, Math.Seq.{take-append-add}, lemmas.Bool.{agree_below, agree_below_at, and_parts, eqb-true, and_left, cases_Bool, cond_both, both_ways, ne_eqb, ltb-true}, lemmas.Str.Ascii.{IsAscii-nil}, lemmas.List.{nil_from_length, take_more}, lemmas.Str.{IsAscii-append, IsUtf8-from_ascii}, lemmas.Slice.{take-put_mid}}
 use Rattle.std.specs.{Char.{digit_value, is_ascii_hexdigit}, List.{AllByRecursion, list_all}, Str.{bytes_eq, IsAscii, IsUtf8}}
-use Rattle.data_url.specs.{Percent.{percent_decoding}, declared.percent.EncodeSet.TheVariants.{Fragment, Path, Query}, Steps.Header.{header_parts, header_text}, Steps.Sets.{IsEntry, byte_encoding, in_set}, Url.{in_path_end_set, percent_encoding, serialised, with_query, without_tabs_and_newlines, in_path_set, in_query_set, before, after, encoded_byte, encoded_path, hex_digit}, declared.percent.EncodeSet.{EncodeSet}}
+use Rattle.data_url.specs.{Percent.{percent_decoding}, Steps.Header.{header_parts, header_text}, Steps.Sets.{IsEntry, byte_encoding, in_set}, Url.{in_path_end_set, percent_encoding, serialised, with_query, without_tabs_and_newlines, in_path_set, in_query_set, before, after, encoded_byte, encoded_path, hex_digit}, declared.percent.EncodeSet.{EncodeSet}}
 use Rattle.data_url.proofs.{classes.Rows.{unmarked_passes}, texts.Bytes.{after_nil, after_other, after_same, lacks, dropped_keeps, dropped_nil, dropped_passes, without_tabs_and_newlines-append, first_byte, before-append, before_at, before_nil, before_other, before_same}}
 use borrow.Rule.Slice.PartMut.{mid_of, put_mid, same_len_mid}
 
@@ -317,9 +317,7 @@ ascii_all (c ∷ s) h = grind (arith, and_parts, ltb-true, ascii_all s)
 
 -- with each of the sets, the encoding of a byte is ASCII
 written_ascii : (set : EncodeSet) (b : ℕ) → b < 256 → IsAscii (byte_encoding (in_set set) b)
-written_ascii Path b l = grind arith
-written_ascii Query b l = grind arith
-written_ascii Fragment b l = grind arith
+written_ascii set b l = grind arith
 
 -- with each of the sets, the encoding of a text of bytes is ASCII
 encoded_ascii : (set : EncodeSet) (s : List ℕ) → ((i : ℕ) → get_or s i 0 < 256) → IsAscii (encoded (in_set set) s)

@@ -1,5 +1,5 @@
 -- Texts of code points, cut at the first code point that does not pass, and where their bytes can be cut.
-use Rattle.std.proofs.{lemmas.Grind.{common_steps}, Common.{append-nil, ◌==◌, take-append-drop, length-append, drop, refl, one-add, subst, sym, ap, ◌∙◌, arith, zero, suc, get_or, encode_utf8_all, ◌≡◌, ℕ, ◌≤◌, ◌<◌, ◌+◌, ◌-◌, Bool, true, false, cond, List, [], ◌∷◌, ◌++◌, length, take}, Math.Seq.{take-append_seam, drop-append_seam}, lemmas.List.Sums.{suffix_len-le-length}, lemmas.Str.Ascii.{IsAscii-nil}, lemmas.Str.{IsUtf8-take, chars-append, chars-encodes, encodes-append, encodes-chars, IsCharBoundary-at_seam, scalars-chars, encode_ascii, chars-nil, length-le-encodes, chars-IsAscii, IsUtf8-from_ascii}}
+use Rattle.std.proofs.{lemmas.Grind.{common_steps}, Common.{append-nil, ◌==◌, take-append-drop, length-append, drop, refl, one-add, subst, sym, ap, ◌∙◌, arith, zero, suc, get_or, encode_utf8_all, ◌≡◌, ℕ, ◌≤◌, ◌<◌, ◌+◌, ◌-◌, Bool, true, false, cond, List, [], ◌∷◌, ◌++◌, length, take}, Math.Seq.{take-append_seam, drop-append_seam}, lemmas.List.Sums.{suffix_len-le-length}, lemmas.Str.Ascii.{IsAscii-nil}, lemmas.Str.{IsUtf8-take, chars-append, chars-encodes, encodes-append, encodes-chars, IsCharBoundary-at_seam, encode_ascii, chars-nil, length-le-encodes, chars-IsAscii, IsUtf8-from_ascii}}
 use Rattle.std.specs.{List.{prefix_len, suffix_len}, Str.{chars, IsCharBoundary, IsUtf8, all_scalars, IsAscii}}
 use Rattle.data_url.specs.{Mime.{DoesNotBegin, Every}, Steps.Parsing.{IsTrimmedEnd, front_of, DoesNotEnd}, Url.{is_c0_control_or_space, without_end, without_start}}
 use lib.Utf8.{encode}

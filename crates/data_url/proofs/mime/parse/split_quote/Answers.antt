@@ -1,8 +1,10 @@
-use Rattle.data_url.proofs.mime.TokenTexts.{quoting_first, quoting_next}
+use Rattle.std.proofs.Common.{arith}
+use Rattle.data_url.proofs.mime.TokenTexts.{quoting_from, quoting_next}
 use Rattle.data_url.proofs.mime.parse.split_quote.Goals as goal
 
 pub loop-place-init : goal.loop-place-init
-loop-place-init c = quoting_first _ _ c.long_span-place.ensures.prefix
+loop-place-init c =
+    quoting_from _ 0 _ _ (omega arith) (omega arith) c.long_span-place.ensures.prefix (omega arith)
 
 pub loop-place-preserved : goal.loop-place-preserved
 loop-place-preserved c = quoting_next _ c.loop-place.place _ _ c.loop-place.invariant c.loop-place-test.true
