@@ -1,7 +1,5 @@
 pub mod TokenTexts
 pub mod Items
 pub mod Parsing
-pub mod Escapes
-pub mod Fingerprints
 pub mod FirstNames
 pub mod RoundTrips

@@ -1,7 +1,7 @@
-//! Classes of bytes, which are looked up in one table.
+//! Classes of bytes: six are looked up in one table, the others are compared.
 
 ghost use Rattle.std.specs.Prelude.{◌≡◌, ◌<◌, ◌≤◌, false, length, true, ℕ};
-ghost use Rattle.std.specs.List.{prefix_len};
+ghost use Rattle.std.specs.List.{prefix_len, suffix_len};
 ghost use Rattle.data_url.specs.Steps.Classes.{in_class, is_marked};
 
 pub(crate) mod lanes;
@@ -25,9 +25,21 @@ pub(crate) enum Class {
     Whitespace,
     /// The bytes before which no `\` is written in a quoted string.
     Unescaped,
+    /// C0 controls and spaces, which a URL is trimmed of (URL Standard, section 4.4, step 1).
+    Control,
+    /// ASCII tabs and newlines, which the URL parser skips (Infra Standard, section 4.6).
+    TabOrNewline,
+    /// The bytes that do not end a path: not `?`.
+    Path,
+    /// The bytes that do not end a header: neither `,` nor `#`.
+    Header,
+    /// The bytes that do not end the name of a parameter: neither `;` nor `=`.
+    Name,
+    /// The bytes that do not end the value of a parameter: not `;`.
+    Value,
 }
 
-/// Has one byte for each byte, with a bit for each class that it is in.
+/// Has one byte for each byte, with a bit for each of the six classes that it is in.
 #[rattlefmt::skip]
 const CLASSES: [u8; 256] = [
     32, 32, 32, 32, 32, 32, 32, 32, 32, 54, 48, 32, 32, 48, 32, 32,
@@ -63,6 +75,12 @@ pub(crate) fn has(class: Class, byte: u8) -> bool
         Class::PlainPath => 8,
         Class::Whitespace => 16,
         Class::Unescaped => 32,
+        Class::Control => return byte <= b' ',
+        Class::TabOrNewline => return matches!(byte, b'\t' | b'\n' | b'\r'),
+        Class::Path => return byte != b'?',
+        Class::Header => return byte != b',' && byte != b'#',
+        Class::Name => return byte != b';' && byte != b'=',
+        Class::Value => return byte != b';',
     };
     CLASSES[byte as usize] & bit != 0
 }
@@ -76,9 +94,19 @@ pub(crate) fn span(class: Class, bytes: &[u8]) -> usize
     bytes.iter().take_while(|byte| has(class, **byte)).count()
 }
 
+/// How many bytes at the end are in a class.
+#[inline(always)]
+pub(crate) fn end_span(class: Class, bytes: &[u8]) -> usize
+    ensures { result ≡ suffix_len (in_class class) bytes.now }
+{
+    let from_end = bytes.iter().rev();
+    from_end.take_while(|byte| has(class, **byte)).count()
+}
+
 /// How many bytes at the start are in a class, counted in rows of sixteen. This is faster than `span` if there are
 /// many.
 #[inline(always)]
+#[rattlefmt::skip]
 pub(crate) fn long_span(class: Class, bytes: &[u8]) -> usize
     ensures prefix { result ≡ prefix_len (in_class class) bytes.now }
     ensures within { result ≤ length bytes.now }
@@ -86,15 +114,9 @@ pub(crate) fn long_span(class: Class, bytes: &[u8]) -> usize
     // For each low half of a byte, the bits of the columns in which such a byte may be outside the class. A class whose
     // runs are short in most texts has all bits.
     let others = match class {
-        Class::Quotable => [
-            129, 129, 129, 129, 129, 129, 129, 129, 129, 129, 129, 129, 129, 129, 129, 193,
-        ],
-        Class::Unquoted => [
-            129, 129, 129, 129, 129, 129, 129, 129, 129, 129, 129, 133, 129, 129, 129, 193,
-        ],
-        Class::PlainPath => [
-            129, 129, 129, 131, 129, 129, 129, 129, 129, 129, 129, 129, 131, 129, 129, 197,
-        ],
+        Class::Quotable => [129, 129, 129, 129, 129, 129, 129, 129, 129, 129, 129, 129, 129, 129, 129, 193],
+        Class::Unquoted => [129, 129, 129, 129, 129, 129, 129, 129, 129, 129, 129, 133, 129, 129, 129, 193],
+        Class::PlainPath => [129, 129, 129, 131, 129, 129, 129, 129, 129, 129, 129, 129, 131, 129, 129, 197],
         Class::Unescaped => ESCAPED,
         _ => [255; 16],
     };

@@ -1,38 +1,19 @@
 //! The header of a data: URL (Fetch Standard, section 6), from its text in the input.
 
 ghost use Rattle.std.specs.Prelude.{◌≡◌, IfOk, IfSome, List, string_bytes, true, ℕ};
-ghost use Rattle.std.specs.List.{prefix_len, suffix_len};
-ghost use Rattle.data_url.specs.Url.{without_tabs_and_newlines, is_tab_or_newline};
+ghost use Rattle.data_url.specs.Url.{without_tabs_and_newlines};
 ghost use Rattle.data_url.specs.Fetch.{before_base64, with_plain};
 ghost use Rattle.data_url.specs.Mime.{Record, default_record};
-ghost use Rattle.data_url.specs.Steps.Header.{IsHeaderOf, IsPathAndQuery, IsPrintable, IsRecordFor, IsSerialised, encoded_parts, header_text, is_no_question_mark};
+ghost use Rattle.data_url.specs.Steps.Header.{IsHeaderOf, IsPathAndQuery, IsPrintable, IsRecordFor, IsSerialised, encoded_parts, header_text};
 ghost use Rattle.data_url.specs.MimeType.{as_option, record_of};
 
-use crate::ascii::{is_tab_or_newline, low_end_len, trim};
+use crate::classes::{Class, end_span, span};
 use crate::mime::{Mime, plain_head, read_head};
 use crate::percent::{EncodeSet, push_encoded};
+use crate::split::trim;
 use std::alloc::{AllocError, Global};
 
 const SUFFIX: [u8; 6] = *b"base64";
-
-const ENCODED_SPACE: &str = "%20";
-
-/// Returns how many bytes come before the first `?`.
-fn path_len(header: &[u8]) -> usize
-    ensures { result ≡ prefix_len is_no_question_mark header.now }
-{
-    header.iter().take_while(|byte| **byte != b'?').count()
-}
-
-/// How many bytes at the end are tabs and newlines.
-fn dropped_end_len(path: &[u8]) -> usize
-    ensures { result ≡ suffix_len is_tab_or_newline path.now }
-{
-    path.iter()
-        .rev()
-        .take_while(|byte| is_tab_or_newline(**byte))
-        .count()
-}
 
 /// Splits off the space at the end of a path that a query follows; tabs and newlines after the space are skipped.
 /// Returns the path without it, and the space as it is written.
@@ -45,13 +26,11 @@ fn split_last_space<'a>(path: &'a [u8], query: &[u8]) -> (&'a [u8], &'static str
     if query.is_empty() {
         return (path, "");
     }
-    let Some(space) = (path.len() - dropped_end_len(path)).checked_sub(1) else {
-        return (path, "");
-    };
-    if path[space] != b' ' {
+    let end = path.len() - end_span(Class::TabOrNewline, path);
+    if end == 0 || path[end - 1] != b' ' {
         return (path, "");
     }
-    (&path[..space], ENCODED_SPACE)
+    (&path[..end - 1], "%20")
 }
 
 /// Returns the text of a header, serialised. Room for a text as long as the header is allocated first, and grows if
@@ -63,7 +42,7 @@ fn serialised(alloc: Global, header: &[u8]) -> Result<String, AllocError>
         ≡ header_text (without_tabs_and_newlines header.now)) }
 {
     let mut text = String::with_capacity(alloc, header.len())?;
-    let (path, query) = header.split_at(path_len(header));
+    let (path, query) = header.split_at(span(Class::Path, header));
     let (path, space) = split_last_space(path, query);
     push_encoded(&mut text, EncodeSet::Path, path)?;
     text.push_str(space)?;
@@ -84,7 +63,7 @@ fn without_suffix(header: &str) -> Option<&str>
     if !bytes[word..].eq_ignore_ascii_case(&SUFFIX) {
         return None;
     }
-    let end = word - low_end_len(&bytes[..word]);
+    let end = word - end_span(Class::Control, &bytes[..word]);
     let semicolon = end.checked_sub(1)?;
     if bytes[semicolon] != b';' {
         return None;
@@ -157,15 +136,13 @@ pub(crate) fn read_media(alloc: Global, media: &str) -> Result<Mime, AllocError>
 fn default_mime(alloc: Global) -> Result<Mime, AllocError>
     ensures { IfOk result (λ mime. record_of mime ≡ default_record) }
 {
-    let type_ = String::from_str(alloc, "text")?;
-    let subtype = String::from_str(alloc, "plain")?;
     let charset = String::from_str(alloc, "charset")?;
     let value = String::from_str(alloc, "US-ASCII")?;
     let mut parameters = Vec::with_capacity(alloc, 1)?;
     parameters.push((charset, value))?;
     Ok(Mime {
-        type_,
-        subtype,
+        type_: String::from_str(alloc, "text")?,
+        subtype: String::from_str(alloc, "plain")?,
         parameters,
     })
 }

@@ -7,7 +7,6 @@ ghost use Rattle.data_url.specs.DataUrl.{Decodes, IsFragmentOf, IsProcessed, mim
 ghost use Rattle.data_url.specs.Fetch.{Good};
 ghost use Rattle.data_url.specs.Errors.{IsBodyErrorOf};
 
-mod ascii;
 mod body;
 mod classes;
 pub mod escapes;
@@ -20,14 +19,13 @@ mod packing;
 mod percent;
 mod split;
 
-use ascii::trim;
 use body::decode_body;
 use escapes::{Pieces, fragment_at};
 use forgiving_base64::{DecodeError, DecodeToVecError, room_for};
 pub use fragment::FragmentIdentifier;
 use header::{read_media, serialise, serialised_text, split_suffix};
 use mime::Mime;
-use split::{after_scheme, split_at_comma};
+use split::{after_scheme, split_at_comma, trim};
 use std::alloc::{AllocError, Global};
 use std::error::Error;
 use std::fmt;

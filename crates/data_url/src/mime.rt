@@ -7,7 +7,6 @@ mod kept;
 mod line;
 mod parse;
 mod print;
-mod tokens;
 mod values;
 
 use line::Line;

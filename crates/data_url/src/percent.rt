@@ -31,43 +31,25 @@ const PART: usize = 128;
 /// The size of the buffer, in bytes: more than a part is written as.
 const BUFFER_LEN: usize = 512;
 
-/// Returns true only if each byte of a part of whole rows is written as it is.
+/// Returns what a part is written as, without its tabs and newlines and percent-encoded. That is the part itself if
+/// each of its bytes is in whole rows and written as it is, and otherwise the start of the buffer.
 #[inline(always)]
-fn is_kept(set: EncodeSet, part: &[u8]) -> bool
-    ensures kept { result ≡ true
-        → part.now ≡ percent_encoding (in_set set) (without_tabs_and_newlines part.now) }
-    ensures text { result ≡ true → IsUtf8 part.now }
-{
-    rows_len(others(set), part) == part.len()
-}
-
-/// Writes an entry of the table to a place in the buffer.
-#[inline(always)]
-fn put(room: &mut [u8; BUFFER_LEN], at: usize, entry: &[u8])
-    requires room { at + 4 ≤ 512 }
-    requires entry { length entry.now ≡ 4 }
-    ensures { take (at + 4) room.new ≡ take at room.old ++ entry.now }
-{
-    room[at..at + 4].copy_from_slice(entry);
-}
-
-/// Writes a part to the start of the buffer, without its tabs and newlines and percent-encoded, and
-/// returns how many bytes that takes.
-#[inline(always)]
-fn encode_part(set: EncodeSet, part: &[u8], room: &mut [u8; BUFFER_LEN]) -> usize
+fn encode_part<'a>(set: EncodeSet, part: &'a [u8], room: &'a mut [u8; BUFFER_LEN]) -> &'a [u8]
     requires { length part.now ≤ 128 }
-    ensures few { result ≤ 512 }
-    ensures written { take result room.new
+    ensures written { result.now
         ≡ percent_encoding (in_set set) (without_tabs_and_newlines part.now) }
-    ensures text { IsUtf8 (take result room.new) }
+    ensures text { IsUtf8 result.now }
 {
+    if rows_len(others(set), part) == part.len() {
+        return part;
+    }
     let mut at = 0;
     for byte in part {
         let entry = entry(set, *byte);
-        put(room, at, entry);
+        room[at..at + 4].copy_from_slice(entry);
         at += usize::from(entry[3]);
     }
-    at
+    &room[..at]
 }
 
 /// Writes bytes at the end of a text, without their tabs and newlines and percent-encoded.
@@ -85,12 +67,7 @@ pub(crate) fn push_encoded(
     let mut rest = bytes;
     while !rest.is_empty() {
         let (part, after) = rest.split_at(rest.len().min(PART));
-        let written = if is_kept(set, part) {
-            part
-        } else {
-            let len = encode_part(set, part, &mut room);
-            &room[..len]
-        };
+        let written = encode_part(set, part, &mut room);
         text.push_str(unsafe { str::from_utf8_unchecked(written) })?;
         rest = after;
     }

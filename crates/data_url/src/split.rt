@@ -1,15 +1,23 @@
-//! Splits the input: its scheme, its header, and what follows its first comma (URL Standard, section 4.4).
+//! Splits the input: its trimmed text, its scheme, its header, and what follows its first comma (URL Standard, section
+//! 4.4).
 
 ghost use Rattle.std.specs.Prelude.{◌≡◌, None, IfSome, IfNone, true};
-ghost use Rattle.std.specs.List.{position};
-ghost use Rattle.data_url.specs.Url.{after, comma, front, without_tabs_and_newlines};
+ghost use Rattle.data_url.specs.Url.{after, comma, front, trimmed_text, without_tabs_and_newlines};
 ghost use Rattle.data_url.specs.Steps.Header.{header_text};
-ghost use Rattle.data_url.specs.Steps.Split.{HasNoScheme, IsHeaderAndTail, IsSchemeAndRest, ends_header};
+ghost use Rattle.data_url.specs.Steps.Split.{HasNoScheme, IsHeaderAndTail, IsSchemeAndRest};
 
-use crate::ascii::is_tab_or_newline;
-use crate::classes::{Class, long_span};
+use crate::classes::{Class, end_span, has, long_span, span};
 
 const SCHEME: [u8; 5] = *b"data:";
+
+/// The text without C0 controls and spaces at both ends.
+#[tactic(auto, using(crate::proofs::texts::CodePoints::controls), unfolding(crate::specs::Url::trimmed_text))]
+pub(crate) fn trim(text: &str) -> &str
+    ensures { result.now ≡ trimmed_text text.now }
+{
+    let text = &text[span(Class::Control, text.as_bytes())..];
+    &text[..text.len() - end_span(Class::Control, text.as_bytes())]
+}
 
 /// What follows the scheme `data:` of a trimmed text, spelled in any ASCII case, with tabs and
 /// newlines anywhere.
@@ -33,7 +41,7 @@ fn after_respelled_scheme(text: &str) -> Option<&str>
 {
     let mut matched = 0;
     for (place, byte) in text.as_bytes().iter().enumerate() {
-        if is_tab_or_newline(*byte) {
+        if has(Class::TabOrNewline, *byte) {
             continue;
         }
         if byte.to_ascii_lowercase() != SCHEME[matched] {
@@ -68,9 +76,8 @@ pub(crate) fn split_at_comma(text: &str) -> Option<Split<'_>>
 {
     let bytes = text.as_bytes();
     let plain = long_span(Class::PlainPath, bytes);
-    let further = header_end(&bytes[plain..])?;
-    let place = plain + further;
-    if bytes[place] == b'#' {
+    let place = plain + span(Class::Header, &bytes[plain..]);
+    if place == bytes.len() || bytes[place] == b'#' {
         return None;
     }
     Some(Split {
@@ -78,11 +85,4 @@ pub(crate) fn split_at_comma(text: &str) -> Option<Split<'_>>
         tail: &text[place + 1..],
         is_plain: place == plain,
     })
-}
-
-/// The place of the first comma or `#`.
-fn header_end(bytes: &[u8]) -> Option<usize>
-    ensures { result ≡ position ends_header bytes.now }
-{
-    bytes.iter().position(|byte| *byte == b',' || *byte == b'#')
 }

@@ -1,24 +1,10 @@
 -- Classes of bytes, sixteen bytes at a time. For `rows_len` and `span`.
-use Rattle.std.proofs.Common.{bit_and, true, false, sym, ap, ◌∙◌, ⊎_elim, arith, w8, ◌==◌, ◌||◌, not}
-use Rattle.std.{proofs.Common.{drop, length}, proofs.lemmas.Simd.{bitmask_splat, map-map, none_from_empty_mask}}
-use Rattle.std.proofs.lemmas.Simd.{run_in_chunk_fails, trailing_mask_l}
-use Rattle.std.proofs.{Common.{length-drop, length-take-le}, lemmas.List.Sums.{prefix_len-le-length}}
-use Rattle.std.proofs.Common.{eqb-true, refl}
-use Rattle.std.specs.{Int.Count.{count_trailing_zeros}, List.{prefix_len}}
-use Rattle.std.proofs.Common.{slice_index, ◌≡◌, ℕ, ◌+◌, ◌%◌, ◌^◌, ◌<◌, ◌≤◌, Bool, List, [], ◌∷◌, cond, map, take}
-use Rattle.std.{proofs.lemmas.Bool.{agree_below, agree_below_at, cases_lt, false≢true}, proofs.lemmas.List.{length-map}}
-use Rattle.std.{proofs.Common.{bit_or, eqb, ◌&&◌}, proofs.Math.Bool.{and_assoc}, specs.List.{list_all}}
-use Rattle.data_url.specs.Steps.Classes.{AreOf, is_marked, looked_up}
-use Rattle.data_url.specs.declared.classes.TheConstants.{CLASSES}
-use Rattle.data_url.specs.declared.classes.lanes.TheConstants.{PLACES}
-use Rattle.std.proofs.Common.{get_or, get_or-take, ◌-◌, ◌*◌, ◌/◌, ltb, subst, ◌++◌, ext_get_or, replicate, length-append}
-use Rattle.std.proofs.lemmas.List.{get_or-drop, get_or_append_left, get_or-append_right, get_or-replicate, length-replicate}
-use Rattle.std.proofs.lemmas.Simd.{Each1-from_get_or, SwzOk, SwzOk-from_Each1, get_or-swz_l, length-swz_l, swz_l}
+use Rattle.std.proofs.{Common.{bit_and, true, false, sym, ap, ◌∙◌, ⊎_elim, arith, w8, ◌==◌, ◌||◌, not, drop, length, length-drop, length-take-le, eqb-true, refl, slice_index, ◌≡◌, ℕ, ◌+◌, ◌%◌, ◌^◌, ◌<◌, ◌≤◌, Bool, List, [], ◌∷◌, cond, map, take, bit_or, eqb, ◌&&◌, get_or, get_or-take, ◌-◌, ◌*◌, ◌/◌, ltb, subst, ◌++◌, ext_get_or, replicate, length-append, nat_lt, suc, zero}, lemmas.Simd.{bitmask_splat, map-map, none_from_empty_mask, run_in_chunk_fails, trailing_mask_l, Each1-from_get_or, SwzOk, SwzOk-from_Each1, get_or-swz_l, length-swz_l, swz_l}, lemmas.List.Sums.{prefix_len-le-length}, lemmas.Bool.{agree_below, agree_below_at, cases_lt, false≢true}, lemmas.List.{length-map, get_or-drop, get_or_append_left, get_or-append_right, get_or-replicate, length-replicate}, Math.Bool.{and_assoc}}
+use Rattle.std.specs.{Int.Count.{count_trailing_zeros}, List.{prefix_len, list_all, range_with_len}}
+use Rattle.data_url.specs.{Steps.Classes.{AreOf, is_marked, looked_up}, declared.classes.TheConstants.{CLASSES}, declared.classes.lanes.TheConstants.{PLACES}}
+use Rattle.data_url.proofs.forgiving_base64.Vectors.{differs, or_zero}
 use mir.Val.{zeroes}
 use lib.Dec.{T}
-use Rattle.data_url.proofs.forgiving_base64.Vectors.{differs, or_zero}
-use Rattle.std.proofs.Common.{◌++◌, nat_lt, suc, zero}
-use Rattle.std.specs.List.{range_with_len}
 use lib.Lanes.{fold_l, mask_l, sel_l, top, zip2}
 
 -- the bits of the items that differ from 0 are the mask of the row's marked bytes
@@ -64,8 +50,7 @@ sel_from p i (suc q) (x ∷ xs) (y ∷ ys) e l = grind (arith, sel_from p (suc i
 -- the first items of a row, and then those of another one
 pub sel_before : (xs ys : List ℕ) (p : ℕ) → length xs ≡ 16 → length ys ≡ 16 → p ≤ 16
     → sel_l (are_before p 0 16) xs ys ≡ take p xs ++ drop p ys
-sel_before xs ys p e h l =
-    let s = sel_from p 0 p xs ys (e ∙ sym h) (omega arith) in rw e at s
+sel_before xs ys p e h l = grind (arith, sel_from p 0 p xs ys (e ∙ sym h) (omega arith))
 
 -- the last items of a row and then zeros
 
@@ -137,9 +122,7 @@ module _ (others bytes : List ℕ) (at : ℕ) {row : List ℕ} {b : Bool} (h : L
     (r : row ≡ take 16 (drop at bytes)) (e : b ≡ list_all (λ x. not (is_marked others x)) row) where
   -- so is the mask of a row
   row_mask : (mask_l (map (is_marked others) (take 16 (drop at bytes))) == 0) ≡ b
-  row_mask = mask_zero (is_marked others) (take 16 (drop at bytes)) ∙ ap (list_all (λ x. not (is_marked others x)))
-      (sym r)
-      ∙ sym e
+  row_mask = grind (arith, mask_zero)
 
   -- if a row has no marked byte, the bytes before the end of the row are of the class, too
   pub one_row_more : b ≡ true → Looked others bytes (at + 16)
@@ -156,8 +139,7 @@ module _ (others bytes : List ℕ) (at : ℕ) {row : List ℕ} {b : Bool} (h : L
       let p : ℕ → Bool = is_marked others in
       let long = length-take-le 16 (drop at bytes) (omega (arith, length-drop {A = ℕ})) in
       let some : 0 < mask_l (map p found) = grind (arith, row_mask, t) in
-      let counted : n ≡ prefix_len (λ x. not (p x)) found =
-      f ∙ ap (λ v. count_trailing_zeros 64 (mask_l (map p v))) r ∙ trailing_mask_l p 64 found (omega arith) some in
+      let counted : n ≡ prefix_len (λ x. not (p x)) found = grind (arith, count_trailing_zeros, trailing_mask_l) in
       let few = prefix_len-le-length (λ x. not (p x)) found in
       let before = run_in_chunk_fails p bytes at 16 n 0 room counted in
       let all : AreOf others bytes (at + n) = λ k l. ⊎_elim (h.front k) (λ (m : at ≤ k). before k m l) (cases_lt k at)

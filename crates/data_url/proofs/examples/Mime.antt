@@ -1,10 +1,8 @@
 -- MIME types with their records and printed texts, by computation.
-use Rattle.std.proofs.Common.{arith, map, IsTrue, ◌≡◌, ℕ, true, List, [], ◌∷◌, ◌++◌, inr, codes, eq-eqb, length, refl}
-use Rattle.std.{proofs.Common.{subst, sym, ◌∙◌}, specs.Char.{to_ascii_lowercase}, specs.List.{list_all}}
-use Rattle.data_url.specs.{CodePoints.{is_http_whitespace}, Mime.{Parses, Record, default_record}}
-use Rattle.data_url.specs.Mime.{is_token_text, kept_pairs, printed, BeginsParameters, HasNoRecord, IsRecordOf, Pair}
-use Rattle.data_url.proofs.{examples.Literals.{on_literals}, mime.TokenTexts.{every_from_all}}
-use Rattle.data_url.proofs.mime.Items.{has_items, has_parts, items_in, parameters_in, subtype_in, trimmed_of, type_in}
+use Rattle.std.proofs.Common.{arith, map, IsTrue, ◌≡◌, ℕ, true, List, [], ◌∷◌, ◌++◌, inr, codes, eq-eqb, length, refl, sym}
+use Rattle.std.specs.{Char.{to_ascii_lowercase}, List.{list_all}}
+use Rattle.data_url.specs.{CodePoints.{is_http_whitespace}, Mime.{Parses, Record, default_record, is_token_text, kept_pairs, printed, BeginsParameters, HasNoRecord, IsRecordOf, Pair}}
+use Rattle.data_url.proofs.{examples.Literals.{on_literals}, mime.TokenTexts.{every_from_all}, mime.Items.{has_items, has_parts, items_in, parameters_in, subtype_in, trimmed_of, type_in}}
 
 -- Texts with a record
 
@@ -96,23 +94,7 @@ reads_x r pairs begins ends are =
 -- each of the texts of type and subtype x has its parameters
 x_records : AllRead x_texts
 unfolding on_literals
-x_records =
-    let x = λ (r : List ℕ) (pairs : List Pair). reads_x r pairs in (
-      x _ _ refl refl refl,
-      (
-        x _ _ refl refl refl,
-        (
-          x _ _ refl refl refl,
-          (
-            x _ _ refl refl refl,
-            (
-              x _ _ refl refl refl,
-              (x _ _ refl refl refl, (x _ _ refl refl refl, (x _ _ refl refl refl, tt))),
-            ),
-          ),
-        ),
-      ),
-    )
+x_records = grind (arith, reads_x)
 
 -- Texts without a record
 
@@ -130,9 +112,7 @@ no_subtype s e m h = grind (arith, h.head.is_subtype, has_parts s h.type_ h.subt
 no_parameters : (s : List ℕ) (r : List ℕ) → parameters_in (trimmed_of is_http_whitespace s) ≡ r
     → (BeginsParameters r → ⊥) → HasNoRecord s
 unfolding on_literals
-no_parameters s r e n m h =
-    n (subst BeginsParameters (sym (has_parts s h.type_ h.subtype h.parameters h.head).parameters_are
-    ∙ e) h.head.begins)
+no_parameters s r e n m h = grind (arith, has_parts s h.type_ h.subtype h.parameters h.head)
 
 -- the empty text has no record
 pub empty_text : HasNoRecord []

@@ -1,14 +1,7 @@
 -- An encoded fragment is read again as it is.
-use Rattle.std.proofs.Common.{◌≡◌, ℕ, ◌<◌, true, false, List, [], ◌∷◌, Some, refl, ap, ◌∙◌, arith}
-use Rattle.std.proofs.lemmas.Bool.{agree_below_at}
-use Rattle.data_url.specs.Fetch.{encoded_body, header_of, staged, staged_fragment, staged_front}
-use Rattle.data_url.specs.{Laws.{IsReadAgain, is_fragment_byte}, Mime.{Every}, Url.{serialised, trimmed_text}}
-use Rattle.data_url.specs.Url.{after_scheme, before, after, cleaned_text, without_tabs_and_newlines, encoded_path}
-use Rattle.data_url.specs.Url.{fragment, front, hex_digit, in_fragment_set, is_tab_or_newline, percent_encoding}
-use Rattle.data_url.proofs.{header.Stages.{bytes_by_place, bytes_dropped}, texts.CodePoints.{end_stays, not_ends_every}}
-use Rattle.data_url.proofs.mime.RoundTrips.{same_seen, seen_same, printed_only, printed_parses, printed_same}
-use Rattle.data_url.proofs.percent.Encoding.{IsBytes, encoded_cons, encoded_nil, is_recoded, recoded-decoded}
-use Rattle.data_url.proofs.texts.Bytes.{dropped_keeps, dropped_nil}
+use Rattle.std.proofs.{Common.{◌≡◌, ℕ, ◌<◌, true, List, [], ◌∷◌, Some, refl, arith}, lemmas.Bool.{agree_below_at}}
+use Rattle.data_url.specs.{Fetch.{encoded_body, header_of, staged, staged_fragment, staged_front}, Laws.{IsReadAgain, is_fragment_byte}, Mime.{Every}, Url.{serialised, trimmed_text, after_scheme, before, after, cleaned_text, without_tabs_and_newlines, encoded_path, fragment, front, hex_digit, in_fragment_set, percent_encoding}}
+use Rattle.data_url.proofs.{header.Stages.{bytes_by_place, bytes_dropped}, texts.CodePoints.{end_stays, not_ends_every}, mime.RoundTrips.{same_seen, seen_same, printed_only, printed_parses, printed_same}, percent.Encoding.{IsBytes, encoded_cons, encoded_nil, is_recoded, recoded-decoded}, texts.Bytes.{dropped_keeps, dropped_nil}}
 
 -- an encoded fragment can have each upper-case hexadecimal digit
 digit_byte : (d : ℕ) → d < 16 → is_fragment_byte (hex_digit d) ≡ true
@@ -19,10 +12,6 @@ pub fragment_bytes : (s : List ℕ) → IsBytes s → Every is_fragment_byte (pe
 fragment_bytes [] h = grind (arith, encoded_nil)
 fragment_bytes (b ∷ s) h = grind (arith, encoded_cons, digit_byte, fragment_bytes s h.1)
 
--- a byte that an encoded fragment can have is not a tab or newline
-not_dropped : (b : ℕ) → is_fragment_byte b ≡ true → is_tab_or_newline b ≡ false
-not_dropped b h = grind arith
-
 -- a text of bytes that an encoded fragment can have is percent-encoded as itself
 encoded_itself : (x : List ℕ) → Every is_fragment_byte x → percent_encoding in_fragment_set x ≡ x
 encoded_itself [] h = encoded_nil in_fragment_set
@@ -31,7 +20,7 @@ encoded_itself (b ∷ x) h = grind (arith, encoded_cons, encoded_itself x h.1)
 -- a text of bytes that an encoded fragment can have has no tab or newline to be dropped
 dropped_itself : (t : List ℕ) → Every is_fragment_byte t → without_tabs_and_newlines t ≡ t
 dropped_itself [] h = dropped_nil
-dropped_itself (b ∷ t) h = dropped_keeps b t (not_dropped b h.0) ∙ ap (λ s. b ∷ s) (dropped_itself t h.1)
+dropped_itself (b ∷ t) h = grind (arith, dropped_keeps, dropped_itself t h.1)
 
 -- a text of bytes that an encoded fragment can have stays as it is when it is cleaned
 cleaned_itself : (t : List ℕ) → Every is_fragment_byte t → cleaned_text t ≡ t

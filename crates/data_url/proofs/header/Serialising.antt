@@ -1,30 +1,8 @@
 -- The suffix `;base64` of a header, and its serialised path and query. For `header.rt`.
-use Rattle.std.proofs.Common.{None, Some, ap, ◌∙◌, arith, suc, Bool, false, ◌++◌, length-append, reverse, Option}
-use Rattle.std.proofs.Common.{get_or-drop, append-nil, take-append-drop, take_all}
-use Rattle.std.proofs.Common.{is_some, refl, append_assoc, ◌⊎◌, true, sym, inl, inr, ⊎_elim, eqb-true, subst, zero}
-use Rattle.std.proofs.Common.{option_and_then, ◌==◌, length-take, get_or-take, length-drop, length-take-le, take-take}
-use Rattle.std.proofs.Common.{◌≡◌, ◌≢◌, ℕ, ◌+◌, ◌-◌, ◌<◌, ◌≤◌, List, [], ◌∷◌, length, get_or, take, drop, map, codes}
-use Rattle.std.{proofs.Math.Seq.{drop-append-add, take-append-add}, specs.Option.{option_map}, specs.Str.{bytes_eq}}
-use Rattle.std.{proofs.lemmas.Bool.{cases_lt, ne_eqb, cases_Bool, not-true, not-false}, specs.Char.{to_ascii_lowercase}}
-use Rattle.std.{proofs.lemmas.List.Folds.{prefix_len-append}, proofs.lemmas.Slice.Eq.{bytes_eq-Decides}}
-use Rattle.std.{proofs.lemmas.List.Sums.{prefix_len_passes, prefix_len_stops}, specs.List.{suffix_len, prefix_len}}
-use Rattle.std.proofs.lemmas.List.Sums.{suffix_len-le-length, prefix_len-drop_no, prefix_len-le-length}
-use Rattle.std.proofs.lemmas.List.{length-map, drop_all, drop_more, drop-append-le, get_or_at, get_or-map}
-use Rattle.std.proofs.lemmas.List.{reverse-append, take_rest, get_or-reverse, length-reverse, take_more}
-use Rattle.data_url.specs.{Steps.Header.{header_text, is_no_question_mark}}
-use Rattle.data_url.proofs.facts.Definitions.{base64_flag, serialised_with_spaces}
-use Rattle.data_url.specs.Fetch.{before_base64, before_semicolon, is_space, before_word, has_base64_suffix}
-use Rattle.data_url.specs.{Fetch.{stripped_header, before_comma}}
-use Rattle.data_url.specs.Steps.Parsing.{DoesNotEnd}
-use Rattle.data_url.specs.Steps.Header.{IsPrintable, HasNoLastSpace, IsPathAndQuery, WithoutSpace, encoded_parts}
-use Rattle.data_url.specs.Url.{encoded_byte, encoded_path, in_path_set, in_query_set, is_tab_or_newline}
-use Rattle.data_url.specs.Url.{is_c0_control_or_space, without_end, before, after, without_tabs_and_newlines}
-use Rattle.data_url.specs.Url.{percent_encoding, after_scheme, cleaned_text, serialised, trimmed_text, with_query}
-use Rattle.data_url.proofs.{split.Cuts.{cut_at}, header.Stages.{low_end, printable_take}, percent.Encoding.{encoded}}
-use Rattle.data_url.proofs.percent.Encoding.{encoded_cons, encoded_nil, path_cons, path_nil, percent_encoding-append}
-use Rattle.data_url.proofs.texts.Bytes.{before_all, before_at, after-dropped_none, after_at, after_none, dropped_around}
-use Rattle.data_url.proofs.texts.Bytes.{before_other, after_other, is_cut}
-use Rattle.data_url.proofs.texts.Bytes.{dropped_keeps, dropped_nil, dropped_passes, before-append, after-append}
+use Rattle.std.proofs.{lemmas.Grind.{common_steps}, Common.{None, Some, ap, ◌∙◌, arith, suc, Bool, false, ◌++◌, length-append, reverse, Option, get_or-drop, append-nil, take-append-drop, is_some, refl, append_assoc, ◌⊎◌, true, sym, inl, inr, eqb-true, zero, option_and_then, ◌==◌, length-take, get_or-take, length-drop, length-take-le, take-take, ◌≡◌, ◌≢◌, ℕ, ◌+◌, ◌-◌, ◌<◌, ◌≤◌, List, [], ◌∷◌, length, get_or, take, drop, map, codes}, Math.Seq.{drop-append-add, take-append-add}, lemmas.Bool.{cases_lt, ne_eqb, cases_Bool, not-true, not-false}, lemmas.List.Folds.{prefix_len-append}, lemmas.Slice.Eq.{bytes_eq-Decides}, lemmas.List.Sums.{prefix_len_passes, prefix_len_stops, suffix_len-le-length, prefix_len-drop_no, prefix_len-le-length}, lemmas.List.{length-map, drop_all, drop_more, drop-append-le, get_or_at, get_or-map, reverse-append, take_rest, get_or-reverse, length-reverse}}
+use Rattle.std.specs.{Option.{option_map}, Str.{bytes_eq}, Char.{to_ascii_lowercase}, List.{suffix_len, prefix_len}}
+use Rattle.data_url.specs.{Steps.Header.{header_text, is_no_question_mark, IsPrintable, HasNoLastSpace, IsPathAndQuery, WithoutSpace, encoded_parts}, Fetch.{before_base64, before_semicolon, is_space, before_word, has_base64_suffix, stripped_header, before_comma}, Steps.Parsing.{DoesNotEnd}, Url.{encoded_byte, encoded_path, in_path_set, in_query_set, is_tab_or_newline, is_c0_control_or_space, without_end, before, after, without_tabs_and_newlines, percent_encoding, after_scheme, cleaned_text, serialised, trimmed_text, with_query}}
+use Rattle.data_url.proofs.{facts.Definitions.{base64_flag, serialised_with_spaces}, split.Cuts.{cut_at}, header.Stages.{low_end, printable_take}, percent.Encoding.{encoded, encoded_cons, encoded_nil, path_cons, path_nil}, texts.Bytes.{before_all, before_at, after-dropped_none, after_at, after_none, dropped_around, before_other, after_other, is_cut, dropped_keeps, dropped_nil, dropped_passes, before-append, after-append}}
 
 -- the word of the suffix
 abbrev pub word : List ℕ
@@ -71,8 +49,7 @@ before_one s n l = grind (arith, length-take-le, take-take)
 -- if the byte before the spaces and the word is not ';', there is no base64 suffix
 pub no_semicolon : (s : List ℕ) (n spaces m : ℕ) → IsPrintable s → HasWord s n spaces → n - spaces ≡ m + 1
     → get_or s m 0 ≢ 59 → before_base64 s ≡ None
-no_semicolon s n spaces m p h e ne =
-    let one = last_one s m (omega (arith, h.six)) in grind (arith, after_word s n spaces p h, bytes_eq-Decides)
+no_semicolon s n spaces m p h e ne = grind (arith, last_one, after_word s n spaces p h, bytes_eq-Decides)
 
 -- if the byte before the spaces and the word is a ';' at index m, the text before the suffix is the first m bytes
 pub with_semicolon : (s : List ℕ) (n spaces m : ℕ) → IsPrintable s → HasWord s n spaces → n - spaces ≡ m + 1
@@ -83,15 +60,7 @@ with_semicolon s n spaces m p h e is =
 
 -- if b does not pass, the longest suffix of x ++ b ∷ q that passes is as long as that of q
 pub suffix_stop : (p : ℕ → Bool) (x q : List ℕ) (b : ℕ) → p b ≡ false → suffix_len p (x ++ b ∷ q) ≡ suffix_len p q
-suffix_stop p x q b f =
-    grind (
-      arith,
-      prefix_len-drop_no p (b ∷ reverse x) 0 0 (omega arith) f,
-      reverse-append x (b ∷ q),
-      reverse-append (b ∷ []) q,
-      append_assoc (reverse q) (b ∷ []) (reverse x),
-      prefix_len-append p (reverse q) (b ∷ reverse x),
-    )
+suffix_stop p x q b f = grind (arith, common_steps, prefix_len-drop_no, reverse-append, append_assoc, prefix_len-append)
 
 -- removing spaces at the end of a text with a '?' removes them only after that '?'
 end_after : (x q : List ℕ) → without_end is_space (x ++ 63 ∷ q) ≡ x ++ 63 ∷ without_end is_space q

@@ -1,29 +1,8 @@
 -- The stages of the Standard, from the input to its record. For `DataUrl::process`.
-use Rattle.std.proofs.Common.{Option, unwrap_or, get_or-drop, get_or-take, length-drop, take-append-drop, length-take}
-use Rattle.std.proofs.Common.{Some, refl, sym, ap, ◌∙◌, inl, inr, eqb-true, subst, arith, map, codes, ◌≢◌, is_some}
-use Rattle.std.{proofs.Common.{drop_at, take_at}, proofs.lemmas.Slice.Eq.{bytes_eq-Decides}, specs.Option.{option_map}}
-use Rattle.std.proofs.Common.{◌≡◌, ℕ, suc, ◌<◌, ◌≤◌, Bool, false, List, [], ◌∷◌, ◌++◌, length, get_or, take, drop, None}
-use Rattle.std.{proofs.Math.Seq.{drop-append_seam}, proofs.lemmas.Bool.{cases_Bool}, proofs.lemmas.Str.{chars-IsAscii}}
-use Rattle.std.proofs.lemmas.List.Elements.{All-drop, All-from_get_or, All-from_recursion, All-take, recursion_from_All}
-use Rattle.std.proofs.lemmas.List.{get_or-reverse, get_or_past, length-reverse, length-map}
-use Rattle.std.{specs.Char.{to_ascii_lowercase}, specs.List.{prefix_len, suffix_len, AllByRecursion}, specs.Str.{chars}}
-use Rattle.data_url.specs.{DataUrl.{IsAcceptable, IsUrlOf, is_base64, mime_of, url_tail}, declared.DataUrl.{DataUrl}}
-use Rattle.data_url.specs.Fetch.{NoScheme, outcome, plain_body, staged}
-use Rattle.data_url.specs.Fetch.{before_base64, has_base64_suffix, media_of, mime_text, with_plain, Accepted, NoComma}
-use Rattle.data_url.specs.Fetch.{is_space, stripped_header, encoded_body, header_of, staged_front, tail_of}
-use Rattle.data_url.specs.Mime.{HasNoRecord, Record, default_record, BeginsParameters, IsHead, IsRecordOfParts}
-use Rattle.data_url.specs.{MimeType.{record_of}, Steps.Split.{HasNoScheme, IsHeaderAndTail, IsSchemeAndRest}}
-use Rattle.data_url.specs.{Percent.{percent_decoding}, Steps.Header.{IsPrintable, header_text, IsHeaderOf, IsRecordFor}}
-use Rattle.data_url.specs.Url.{before, after, is_c0_control_or_space, percent_encoding, trimmed_text, after_scheme}
-use Rattle.data_url.specs.Url.{cleaned_text, without_tabs_and_newlines, fragment, front, serialised, in_fragment_set}
-use Rattle.data_url.proofs.{examples.Literals.{on_literals}, runs.Runs.{none_or_some}}
-use Rattle.data_url.proofs.{mime.FirstNames.{head_wellformed, parses_parts}, percent.Encoding.{serialised_recoded}}
-use Rattle.data_url.proofs.percent.Encoding.{IsBytes, encoded_cons, encoded_nil, header_nil, header_path, header_query}
-use Rattle.data_url.proofs.percent.Encoding.{Recoded, before-serialised, recoded-decoded, recoded_tails}
-use Rattle.data_url.proofs.texts.Bytes.{after-dropped_none, after_at, after_dropped, after_nil, after_other}
-use Rattle.data_url.proofs.texts.Bytes.{before-append, before_nil, before_other, before_same, after-append}
-use Rattle.data_url.proofs.texts.Bytes.{before_all, before_at, dropped_passes, is_cut, lacks}
-use Rattle.data_url.proofs.texts.Bytes.{without_tabs_and_newlines-append, dropped_around, dropped_keeps, dropped_nil}
+use Rattle.std.proofs.{Common.{Option, unwrap_or, get_or-drop, get_or-take, length-drop, take-append-drop, length-take, Some, refl, sym, ap, ◌∙◌, inl, inr, eqb-true, subst, arith, map, codes, ◌≢◌, is_some, drop_at, take_at, ◌≡◌, ℕ, suc, ◌<◌, ◌≤◌, Bool, false, List, [], ◌∷◌, ◌++◌, length, get_or, take, drop, None}, lemmas.Slice.Eq.{bytes_eq-Decides}, Math.Seq.{drop-append_seam}, lemmas.Bool.{cases_Bool}, lemmas.Str.{chars-IsAscii}, lemmas.List.Elements.{All-drop, All-from_get_or, All-from_recursion, All-take, recursion_from_All}, lemmas.List.{get_or-reverse, get_or_past, length-reverse, length-map}}
+use Rattle.std.specs.{Option.{option_map}, Char.{to_ascii_lowercase}, List.{prefix_len, suffix_len, AllByRecursion}, Str.{chars}}
+use Rattle.data_url.specs.{DataUrl.{IsAcceptable, IsUrlOf, is_base64, mime_of, url_tail}, declared.DataUrl.{DataUrl}, Fetch.{NoScheme, outcome, plain_body, staged, before_base64, has_base64_suffix, media_of, mime_text, with_plain, Accepted, NoComma, is_space, stripped_header, encoded_body, header_of, staged_front, tail_of}, Mime.{HasNoRecord, Record, default_record, BeginsParameters, IsHead, IsRecordOfParts}, MimeType.{record_of}, Steps.Split.{HasNoScheme, IsHeaderAndTail, IsSchemeAndRest}, Percent.{percent_decoding}, Steps.Header.{IsPrintable, header_text, IsHeaderOf, IsRecordFor}, Url.{before, after, is_c0_control_or_space, percent_encoding, trimmed_text, after_scheme, cleaned_text, without_tabs_and_newlines, fragment, front, serialised, in_fragment_set}}
+use Rattle.data_url.proofs.{examples.Literals.{on_literals}, runs.Runs.{none_or_some}, mime.FirstNames.{head_wellformed, parses_parts}, percent.Encoding.{serialised_recoded, IsBytes, encoded_cons, encoded_nil, header_nil, header_path, header_query, Recoded, before-serialised, recoded-decoded, recoded_tails}, texts.Bytes.{after-dropped_none, after_at, after_dropped, after_nil, after_other, before-append, before_nil, before_other, before_same, after-append, before_all, before_at, dropped_passes, is_cut, lacks, without_tabs_and_newlines-append, dropped_around, dropped_keeps, dropped_nil}}
 
 -- a text of bytes, encoded with a set that has all bytes that are not printable, is printable
 encoded_printable : (p : ℕ → Bool) → ((b : ℕ) → p b ≡ false → (32 ≤ b) × (b < 127)) → (s : List ℕ) → IsBytes s
@@ -223,14 +202,11 @@ plain_added (c ∷ s) p h = grind (arith, chars_printable (c ∷ s) p)
 pub suffix_is : (header s : List ℕ) (o : Option (List ℕ)) (m : Record) → IsPrintable header → s ≡ trimmed_text header
     → o ≡ before_base64 s → IsRecordFor (with_plain (unwrap_or o s)) m → IsHeaderOf header m (is_some o)
 unfolding mime_text media_of has_base64_suffix
-suffix_is header s o m p e f h =
-    let t = trimmed_is_stripped header p in
-    record { record_is = rw (← t, ← e, ← f) h; base64_is = cc }
+suffix_is header s o m p e f h = grind (arith, trimmed_is_stripped header p)
 
 -- the record of the parts of a text is the record for it
 pub parts_for : {s x a b c : List ℕ} (m : Record) → s ≡ x → IsHead s a b c → IsRecordOfParts a b c m → IsRecordFor x m
-parts_for {s} {x} {a} {b} {c} m e h p =
-    record { is_record = inl (rw (← e) (parses_parts s a b c m h p)); wellformed = head_wellformed h p }
+parts_for {s} {x} {a} {b} {c} m e h p = grind (arith, parses_parts s a b c m h p, head_wellformed h p)
 
 -- a text with ';' at index 0 begins with ';'
 pub begins_at : (s : List ℕ) → get_or s 0 0 ≡ 59 → BeginsParameters s
@@ -277,15 +253,7 @@ pub is_url_of : (t rest header : List ℕ) (u : DataUrl) → IsBytes (trimmed_te
     → IsHeaderOf (header_text (without_tabs_and_newlines header)) (record_of (mime_of u)) (is_base64 u) → IsUrlOf t u
 is_url_of t rest header u b s h k =
     let a = is_accepted t rest header (url_tail u) (rest_bytes t rest b s) s h in
-    record {
-      header = header_text (without_tabs_and_newlines header);
-      header_is = a.stages.header_is;
-      record_is = k.record_is.is_record;
-      wellformed = k.record_is.wellformed;
-      base64_is = k.base64_is;
-      tail_is = a.tail_is;
-      staged_is = stages_accepted t rest header (url_tail u) b s h (is_base64 u) k.base64_is;
-    }
+    grind (arith, stages_accepted t rest header (url_tail u) b s h (is_base64 u) k.base64_is)
 
 -- if each number of a text is below 256, the trimmed text is a text of bytes
 pub bytes_trimmed : (t : List ℕ) → ((i : ℕ) → get_or t i 0 < 256) → IsBytes (trimmed_text t)
@@ -331,9 +299,7 @@ url_parts t u b h = elim (none_or_some (after_scheme t)) [
       let cut = is_cut 44 a (without_tabs_and_newlines (url_tail u)) k.1 in
       elim (none_or_some (after 44 (front a))) [
         | inl n ↦ absurd (cc (no_header t a e bytes n, h.header_is))
-        | inr (x, y) ↦
-            let first = comma_first a x y in
-            record { rest = a; header = before 44 a; rest_is = e; bytes = bytes; parts = search (arith, cut, first) }
+        | inr (x, y) ↦ grind (arith, comma_first)
       ]
 ]
 

@@ -1,35 +1,8 @@
--- Which parameters are kept: the first of each name. For `kept.rt`, and that a record is well formed.
-use Rattle.std.proofs.Common.{◌+◌, append_assoc, append-nil, arith, ◌≤◌, not, string_bytes, ◌⊎◌}
-use Rattle.std.proofs.Common.{false, cond, [], ◌∷◌, ◌++◌, get_or, drop, Option, None, Some, refl, ap₂, subst, Global}
-use Rattle.std.proofs.Common.{slice_index, suc, ◌-◌, ⊎_elim}
-use Rattle.std.proofs.Common.{get_or-take, set, length-take, length-append, take-append-drop}
-use Rattle.std.proofs.Common.{◌≡◌, ℕ, List, String, ap, length, map, min, sym, take, ◌∙◌, ◌<◌, ◌||◌, ◌&&◌, Bool, true}
-use Rattle.std.proofs.Common.{length-drop, ◌≢◌, ◌==◌, ◌^◌, bit_and}
-use Rattle.std.{proofs.lemmas.Nat.Bits.{bit_at-lt}, specs.Int.{bit_at}, specs.Int.Count.{count_trailing_zeros}, specs.Simd.Lanes.{mask_l}}
-use Rattle.std.proofs.{Math.Bool.{or-true}, Math.Seq.{take-add}}
-use Rattle.std.proofs.lemmas.List.{get_or-drop}
-use Rattle.std.{proofs.Math.ListN.{drop_of_length-le}, proofs.lemmas.Map.Text.{btree_set_updates_text}}
-use Rattle.std.proofs.lemmas.Bool.{cond-true, not-false, not-true, agree_below_at, and_from, and_parts, cases_lt}
-use Rattle.std.{proofs.lemmas.Bool.{cond_both, false_from_ne_true}}
-use Rattle.std.proofs.lemmas.List.Folds.{list_all-append, list_all-map, list_all_at, list_any-append, list_any_at}
-use Rattle.std.proofs.lemmas.List.{get_or-map, length-map, length-set, map-append, drop-append-le}
-use Rattle.std.{proofs.lemmas.Slice.Eq.{bytes_eq-Decides}, specs.List.{list_all}, specs.Ordering.{nat_cmp}}
-use Rattle.std.proofs.lemmas.Str.Ascii.{IsAscii-map, lowercase-lowercase, lowercase_ascii, lowercase_is}
-use Rattle.std.{proofs.lemmas.Str.{chars-IsAscii, chars-nil, IsUtf8-string_bytes}, specs.Char.{to_ascii_lowercase}}
-use Rattle.std.specs.BTreeSet.{BTreeSet, UpdatesBy, contains, contains_text}
-use Rattle.std.{specs.Cmp.Lexicographic.{slice_cmp}, specs.Str.{IsUtf8, bytes_eq, chars}, specs.String.{string_cmp}}
-use Rattle.data_url.specs.CodePoints.{is_quotable, is_token}
-use Rattle.data_url.specs.declared.mime.kept.TheConstants.{LOOKED_THROUGH, FINGERPRINTS_LEN}
-use Rattle.data_url.specs.{Mime.{Parses, Record, has_distinct_names, IsRecordOfParts}, MimeType.{pair_of, code_points}}
-use Rattle.data_url.specs.Mime.{has_name, BeginsParameters, Item, Items, Pair, first_of_each_name, is_lowercase_name}
-use Rattle.data_url.specs.Mime.{is_token_text, kept_pairs, valid_of, valid_pairs, HasNoRecord, IsHead, IsWellformed}
-use Rattle.data_url.specs.Steps.Kept.{first_of, fingerprint_of, pairs_of, AreFingerprints, HasLaterNames, IsIndexed}
-use Rattle.data_url.specs.Steps.Parsing.{HasLowercaseNames, added_pairs, after_mark, item_in, pair_if, reading_in}
-use Rattle.data_url.specs.{Steps.Parsing.{unless_named, HasNoHead}, declared.mime.kept.KeptParameters.{KeptParameters}}
-use Rattle.data_url.proofs.mime.Items.{has_items, has_parameter, items_are, items_in, rest_shorter}
-use Rattle.data_url.proofs.mime.Fingerprints.{alike_first, alike_later, cleared, unmarked}
-use Rattle.data_url.proofs.{mime.Parsing.{mark_is}, texts.CodePoints.{no_chars}}
-use Rattle.data_url.proofs.mime.TokenTexts.{bytes_of_ascii, token_text_ascii, token_text_chars}
+-- Which parameters are kept: the first of each name, found by fingerprints. For `kept.rt` and well-formed records.
+use Rattle.std.proofs.{lemmas.Grind.{common_steps}, Common.{◌+◌, append_assoc, append-nil, arith, ◌≤◌, not, string_bytes, ◌⊎◌, false, cond, [], ◌∷◌, ◌++◌, get_or, drop, Option, None, Some, refl, ap₂, Global, slice_index, suc, ◌-◌, ⊎_elim, get_or-take, set, length-take, length-append, take-append-drop, ◌≡◌, ℕ, List, String, ap, length, map, min, sym, take, ◌∙◌, ◌<◌, ◌||◌, ◌&&◌, Bool, true, ◌≢◌, ◌==◌, ◌^◌, bit_and, zero, ◌*◌, ◌%◌, bit_or, length-drop, length-take-le, take_all, w64, ◌/◌}, lemmas.Nat.Bits.{bit_at-lt, bit_at-suc, bit_at-trailing_zeros, bit_at_and, bit_at_lowest}, Math.ListN.{drop_of_length-le}, lemmas.Map.Text.{btree_set_updates_text}, lemmas.Bool.{cond-true, not-false, not-true, and_from, and_parts, cases_lt, cond_both, false_from_ne_true, agree_below_at, eqb-true}, lemmas.List.Folds.{list_all-append, list_all-map, list_all_at, list_any-append, list_any_at}, lemmas.List.{get_or-map, length-map, length-set, map-append, drop-append-le, take-append-le, take_more_set, get_or-drop, get_or-take}, lemmas.Slice.Eq.{bytes_eq-Decides}, lemmas.Str.Ascii.{IsAscii-map, lowercase-lowercase, lowercase_ascii}, lemmas.Str.{chars-IsAscii, chars-nil, IsUtf8-string_bytes}, lemmas.Simd.{bit_mask_l}}
+use Rattle.std.specs.{Int.{bit_at}, Int.Count.{count_trailing_zeros}, Simd.Lanes.{mask_l}, List.{list_all}, Ordering.{nat_cmp}, Char.{to_ascii_lowercase}, BTreeSet.{BTreeSet, UpdatesBy, contains, contains_text}, Cmp.Lexicographic.{slice_cmp}, Str.{IsUtf8, bytes_eq, chars}, String.{string_cmp}}
+use Rattle.data_url.specs.{CodePoints.{is_quotable, is_token}, declared.mime.kept.TheConstants.{LOOKED_THROUGH, FINGERPRINTS_LEN, CASE}, Mime.{Parses, Record, has_distinct_names, IsRecordOfParts, has_name, BeginsParameters, Item, Items, Pair, first_of_each_name, is_lowercase_name, is_token_text, kept_pairs, valid_of, valid_pairs, HasNoRecord, IsHead, IsWellformed}, MimeType.{pair_of, code_points}, Steps.Kept.{first_of, fingerprint_of, pairs_of, AreFingerprints, HasLaterNames, IsIndexed, letter_at}, Steps.Parsing.{HasLowercaseNames, added_pairs, after_mark, item_in, pair_if, reading_in, unless_named, HasNoHead}, declared.mime.kept.KeptParameters.{KeptParameters}}
+use Rattle.data_url.proofs.{mime.Items.{has_items, has_parameter, items_are, items_in, rest_shorter}, mime.Parsing.{mark_is}, texts.CodePoints.{no_chars}, mime.TokenTexts.{bytes_of_ascii, token_text_ascii, token_text_chars}}
 
 -- for texts that are not equal, the test of equality is false
 pub test_from_different : (a c : List ℕ) → (a ≡ c → ⊥) → bytes_eq a c ≡ false
@@ -38,9 +11,7 @@ test_from_different a c n = grind (arith, false_from_ne_true, bytes_eq-Decides)
 -- a code point in lower case is a token code point exactly if the code point is
 token_lower : (c : ℕ) → is_token (to_ascii_lowercase c) ≡ is_token c
 unfolding is_token
-token_lower c =
-    let below = agree_below_at (λ x. is_token (to_ascii_lowercase x)) is_token 128 c refl in
-    grind (arith, cases_lt c 128, lowercase_is)
+token_lower c = grind (arith, common_steps)
 
 -- a text in lower case has only token code points exactly if the text has
 all_token_lower : (t : List ℕ) → list_all is_token (map to_ascii_lowercase t) ≡ list_all is_token t
@@ -64,9 +35,7 @@ lowercase_name t h = grind (arith, token_text_lower, bytes_eq-Decides, lower_twi
 -- the code points of a token text whose bytes are put into lower case are its code points in lower case
 pub lower_chars : (bs : List ℕ) → IsUtf8 bs → is_token_text (chars bs) ≡ true
     → chars (map to_ascii_lowercase bs) ≡ map to_ascii_lowercase (chars bs)
-lower_chars bs u h =
-    let a = token_text_ascii bs (token_text_chars bs u ∙ h) in
-    grind (arith, chars-IsAscii, IsAscii-map to_ascii_lowercase bs lowercase_ascii a)
+lower_chars bs u h = search (arith, token_text_ascii, token_text_chars, chars-IsAscii, IsAscii-map, lowercase_ascii)
 
 -- a lower-case name in lower case is the name itself
 pub lower_is_itself : (t : List ℕ) → is_lowercase_name t ≡ true → map to_ascii_lowercase t ≡ t
@@ -82,44 +51,82 @@ pub some_byte : (n : List ℕ) → is_token_text (chars n) ≡ true → 0 < leng
 some_byte [] h = grind (arith, chars-nil)
 some_byte (b ∷ n) h = omega arith
 
+-- the case bit of a byte can be set before or after it is put into lower case
+case_lower : (b : ℕ) → b < 256 → bit_or (to_ascii_lowercase b) CASE ≡ bit_or b CASE
+case_lower b l = eqb-true _ _
+    (agree_below_at (λ b. bit_or (to_ascii_lowercase b) CASE == bit_or b CASE) (λ b. true) 256 b refl l)
+
+-- so the letter at a place is the same in a text in lower case
+letter_lower : (t : List ℕ) (k : ℕ) → slice_index t k < 256 → letter_at (map to_ascii_lowercase t) k ≡ letter_at t k
+letter_lower [] k l = refl
+letter_lower (c ∷ t) zero l = case_lower c l
+letter_lower (c ∷ t) (suc k) l = letter_lower t k l
+
+-- what is computed from the last three bytes of a name is the fingerprint of the name in lower case
+pub fingerprint_is : (t : List ℕ) (last a b c : ℕ) → ((k : ℕ) → slice_index t k < 256) → last ≡ length t - 1
+    → a ≡ letter_at t last → b ≡ letter_at t (last - 1) → c ≡ letter_at t (last - 2)
+    → (a + 10 * b + 100 * c) % 256 ≡ fingerprint_of (map to_ascii_lowercase t)
+unfolding fingerprint_of
+fingerprint_is t last a b c fits l e f g = grind (arith, length-map, letter_lower)
+
+-- a row has sixteen bytes
+pub row_len : (bytes : List ℕ) (at : ℕ) → at + 16 ≤ length bytes → length (take 16 (drop at bytes)) ≡ 16
+row_len bytes at l = length-take-le 16 (drop at bytes) (omega (arith, length-drop {A = ℕ}))
+
+module _ (bytes : List ℕ) (at b : ℕ) {bits : ℕ} (l : at + 16 ≤ length bytes)
+    (e : bits ≡ mask_l (map (λ c. c == b) (take 16 (drop at bytes)))) where
+  -- where the bit of a row is not set, its byte is not b
+  pub unmarked : (k : ℕ) → k < 16 → bit_at bits k ≡ 0 → slice_index bytes (at + k) ≢ b
+  unmarked k m z =
+      let p : ℕ → Bool = λ c. c == b in
+      let row = take 16 (drop at bytes) in
+      let bit : cond (p (slice_index bytes (at + k))) 1 0 ≡ 0 =
+      ap (λ c. cond (p c) 1 0) (sym (get_or-drop at bytes k 0) ∙ sym (get_or-take 16 (drop at bytes) k 0 m))
+      ∙ ap (λ v. cond v 1 0) (sym (get_or-map p row k 0 false (omega (arith, row_len bytes at l)))) ∙ sym (bit_mask_l
+      (map p row) k)
+      ∙ ap (λ n. bit_at n k) (sym e) ∙ z in
+      λ same. absurd (grind (arith, same, bit))
+
+-- if a bit is set in a number, but not in the number less one, no lower bit is set
+lowest : (n k : ℕ) → bit_at n k ≡ 1 → bit_at (n - 1) k ≡ 0 → (i : ℕ) → i < k → bit_at n i ≡ 0
+lowest n zero h z i l = absurd (omega arith)
+lowest n (suc k) h z zero l = grind (arith, bit_at-suc n k, bit_at-suc (n - 1) k, bit_at_lowest n)
+lowest n (suc k) h z (suc i) l = grind (arith, bit_at-suc, lowest (n / 2) k)
+
+-- a bit that is set in n, and not in n & (n - 1), is the lowest one
+pub cleared : {n k t : ℕ} → n ≢ 0 → n < 2 ^ 64 → t ≡ count_trailing_zeros 64 n → bit_at n k ≡ 1
+    → bit_at (bit_and n (n - 1)) k ≡ 0 → k ≡ t
+cleared {n} {k} {t} z l e h c = grind (arith, bit_at-trailing_zeros w64 n, bit_at_and n (n - 1) k, lowest n k h)
+
+module _ (bytes : List ℕ) (pairs : List Pair) (p : Pair) (room : length bytes ≡ FINGERPRINTS_LEN)
+    (h : AreFingerprints (take (length (first_of pairs)) bytes) (first_of pairs)) where
+  -- if a pair that is pushed is one of the first ones, and its fingerprint is put into its place, it is the fingerprint
+  -- of the pair
+  pub alike_first : {b place : ℕ} → place ≡ length pairs → place < LOOKED_THROUGH → b ≡ fingerprint_of p.0
+      → AreFingerprints (take (length (first_of (pairs ++ (p ∷ [])))) (set bytes place b))
+      (first_of (pairs ++ (p ∷ [])))
+  alike_first {b} {place} e l f =
+      let before : first_of pairs ≡ pairs = take_all LOOKED_THROUGH pairs (omega arith) in
+      let after : first_of (pairs ++ (p ∷ [])) ≡ pairs ++ (p ∷ []) =
+      take_all LOOKED_THROUGH (pairs ++ (p ∷ [])) (simp length-append (omega arith)) in
+      let long : length (pairs ++ (p ∷ [])) ≡ place + 1 = simp length-append (omega arith) in
+      grind (arith, take_more_set, map-append)
+
+  -- if it comes after the first ones, the fingerprints stay the same
+  pub alike_later : LOOKED_THROUGH ≤ length pairs
+      → AreFingerprints (take (length (first_of (pairs ++ (p ∷ [])))) bytes) (first_of (pairs ++ (p ∷ [])))
+  alike_later l = rw (take-append-le LOOKED_THROUGH pairs (p ∷ []) l) h
+
 -- if none of the pairs at any place has the name, none has it
-all_unnamed : (n : List ℕ) (pairs : List Pair)
+pub all_unnamed : (n : List ℕ) (pairs : List Pair)
     → ((k : ℕ) → k < length pairs → bytes_eq (get_or pairs k ([], [])).0 n ≡ false) → has_name n pairs ≡ false
 all_unnamed n [] h = refl
 all_unnamed n (p ∷ pairs) h = grind (arith, h 0 (omega arith), all_unnamed n pairs (λ k l. h (suc k) (omega arith)))
 
 -- none of the pairs of a row has the name whose bit is not set
 pub record NoneUnset (n : List ℕ) (pairs : List Pair) (at left : ℕ) : Type 0 where
-  pub unset : (k : ℕ) → k < 16 → bit_at left k ≡ 0 → at + k < length pairs
-      → bytes_eq (get_or pairs (at + k) ([], [])).0 n ≡ false
-
-module _ (n : List ℕ) (pairs : List Pair) (at : ℕ) where
-  -- if the bits of those that are there are not set, none of the row has the name
-  row_unnamed : {left : ℕ} → NoneUnset n pairs at left
-      → ((k : ℕ) → at + k < length pairs → bit_at left k ≡ 0) → has_name n (take 16 (drop at pairs)) ≡ false
-  row_unnamed h z =
-      let long = length-take 16 (drop at pairs) in
-      let left = length-drop at pairs in
-      all_unnamed n (take 16 (drop at pairs)) (λ k l.
-      let same : get_or (take 16 (drop at pairs)) k ([], []) ≡ get_or pairs (at + k) ([], []) =
-      get_or-take 16 (drop at pairs) k ([], []) (omega arith) ∙ get_or-drop at pairs k ([], []) in
-      rw same (h.unset k (omega arith) (z k (omega arith)) (omega arith)))
-
-  -- if one of a row has it, one has it
-  pub row_named : has_name n (take 16 (drop at pairs)) ≡ true → has_name n pairs ≡ true
-  row_named h =
-      let p : Pair → Bool = λ q. bytes_eq q.0 n in
-      let from : has_name n (drop at pairs) ≡ true = ap (has_name n) (sym (take-append-drop 16 (drop at pairs)))
-      ∙ list_any-append p (take 16 (drop at pairs)) (drop 16 (drop at pairs)) ∙ ap (λ b. b || has_name n (drop 16
-      (drop at pairs))) h in
-      ap (has_name n) (sym (take-append-drop at pairs)) ∙ list_any-append p (take at pairs) (drop at pairs)
-      ∙ ap (λ b. has_name n (take at pairs) || b) from ∙ or-true (has_name n (take at pairs))
-
-  -- if none before a row and none of the row has it, none before the end of the row has it
-  pub row_further : has_name n (take at pairs) ≡ false → has_name n (take 16 (drop at pairs)) ≡ false
-      → has_name n (take (at + 16) pairs) ≡ false
-  row_further h k = rw (take-add at 16 pairs) (list_any-append (λ (p : Pair). bytes_eq p.0 n) (take at pairs) (take 16
-      (drop at pairs)) ∙ cc)
+  pub unset : (k : ℕ) → at ≤ k → k < at + 16 → bit_at left (k - at) ≡ 0 → k < length pairs
+      → bytes_eq (get_or pairs k ([], [])).0 n ≡ false
 
 module _ {kept : KeptParameters} {len : ℕ} (x : IsIndexed kept)
     (e : len ≡ min LOOKED_THROUGH (length kept.pairs.items)) where
@@ -133,8 +140,7 @@ module _ {kept : KeptParameters} {len : ℕ} (x : IsIndexed kept)
   fingerprint_at k l =
       let first = first_of (pairs_of kept) in
       let within : k < length first = omega (arith, first_len) in
-      sym (get_or-take (length first) kept.fingerprints k 0 within) ∙ ap (λ s. slice_index s k) x.alike
-      ∙ get_or-map (λ (p : Pair). fingerprint_of p.0) first k ([], []) 0 within
+      grind (arith, get_or-take (length first) kept.fingerprints k 0 within, get_or-map)
 
   module _ {n : List ℕ} {b : ℕ} (u : IsUtf8 n) (h : is_token_text (chars n) ≡ true)
       (f : b ≡ fingerprint_of (map to_ascii_lowercase n)) where
@@ -147,17 +153,10 @@ module _ {kept : KeptParameters} {len : ℕ} (x : IsIndexed kept)
         → bits ≡ mask_l (map (λ c. c == b) (take 16 (drop at kept.fingerprints)))
         → NoneUnset (map to_ascii_lowercase (chars n)) (first_of (pairs_of kept)) at bits
     none_unset at r m = record {
-      unset = λ k l z w.
-          let within : at + k < len = omega (arith, first_len) in
-          test_from_different _ _ (λ same. unmarked kept.fingerprints at b r m k l z (fingerprint_at (at + k) within
+      unset = λ k a l z w. test_from_different _ _ (λ same. unmarked kept.fingerprints at b r m (k - at) (omega arith) z
+          (ap (slice_index kept.fingerprints) (omega arith) ∙ fingerprint_at k (omega (arith, first_len))
           ∙ ap fingerprint_of (same ∙ ap (map to_ascii_lowercase) same_name) ∙ sym f));
     }
-
-    -- if the bits of those that are there are not set, none of the row has the name
-    pub none_named : {at left : ℕ} → NoneUnset (map to_ascii_lowercase (chars n)) (first_of (pairs_of kept)) at left
-        → ((k : ℕ) → at + k < len → bit_at left k ≡ 0)
-        → false ≡ has_name (map to_ascii_lowercase (chars n)) (take 16 (drop at (first_of (pairs_of kept))))
-    none_named {at} g z = sym (row_unnamed _ (first_of (pairs_of kept)) at g (λ k l. z k (omega (arith, first_len))))
 
     module _ {place : ℕ} {item : String Global × String Global} {key : List ℕ} (l : place < len) (g : item
         ≡ get_or kept.pairs.items place item) (k : key ≡ string_bytes item.0) where
@@ -177,21 +176,10 @@ module _ {kept : KeptParameters} {len : ℕ} (x : IsIndexed kept)
       key_at : (get_or (first_of (pairs_of kept)) place ([], [])).0 ≡ map to_ascii_lowercase key
       key_at = ap (λ (p : Pair). p.0) item_at ∙ sym (key_is.0 ∙ key_is.1)
 
-      -- if its key is the name in any ASCII case, one of the pairs of its row has the name
-      pub found_named : {at : ℕ} → at ≤ place → place < at + 16 → map to_ascii_lowercase key ≡ map to_ascii_lowercase n
-          → true ≡ has_name (map to_ascii_lowercase (chars n)) (take 16 (drop at (first_of (pairs_of kept))))
-      found_named {at} a m s =
-          let first = first_of (pairs_of kept) in
-          let n' = map to_ascii_lowercase (chars n) in
-          let same : get_or (take 16 (drop at first)) (place - at) ([], []) ≡ get_or first place ([], []) =
-          get_or-take 16 (drop at first) (place - at) ([], []) (omega arith)
-          ∙ get_or-drop at first (place - at) ([], []) ∙ ap (λ i. get_or first i ([], [])) (omega arith) in
-          let long = length-take 16 (drop at first) in
-          let left = length-drop at first in
-          sym (list_any_at (λ (p : Pair). bytes_eq p.0 n') (take 16 (drop at first)) (place - at) ([], [])
-          (omega (arith, first_len))
-          ((bytes_eq-Decides _ n').1 (ap (λ (p : Pair). p.0) same ∙ key_at ∙ s ∙ ap (map to_ascii_lowercase) (sym
-          same_name))))
+      -- if its key is the name in any ASCII case, one of the pairs has the name
+      pub found_named : map to_ascii_lowercase key ≡ map to_ascii_lowercase n
+          → has_name (map to_ascii_lowercase (chars n)) (first_of (pairs_of kept)) ≡ true
+      found_named s = grind (arith, list_any_at, first_len, bytes_eq-Decides, key_at, same_name)
 
       -- otherwise, the bit of this place, which is the lowest, is cleared
       pub one_cleared : {at left t : ℕ} → NoneUnset (map to_ascii_lowercase (chars n)) (first_of (pairs_of kept)) at
@@ -200,12 +188,12 @@ module _ {kept : KeptParameters} {len : ℕ} (x : IsIndexed kept)
           → (map to_ascii_lowercase key ≡ map to_ascii_lowercase n → ⊥)
           → NoneUnset (map to_ascii_lowercase (chars n)) (first_of (pairs_of kept)) at (bit_and left (left - 1))
       one_cleared {at} {left} g w v y i s = record {
-        unset = λ k m z r. ⊎_elim (λ (a : bit_at left k < 1). g.unset k m (omega arith) r)
-            (λ (a : 1 ≤ bit_at left k).
-            let here : at + k ≡ place = omega (arith, cleared w v y (omega (arith, bit_at-lt left k)) z) in
+        unset = λ k a m z r. ⊎_elim (λ (c : bit_at left (k - at) < 1). g.unset k a m (omega arith) r)
+            (λ (c : 1 ≤ bit_at left (k - at)).
+            let here : k ≡ place = omega (arith, cleared w v y (omega (arith, bit_at-lt left (k - at))) z) in
             test_from_different _ _ (λ same. s (sym key_at
             ∙ ap (λ i. (get_or (first_of (pairs_of kept)) i ([], [])).0) (sym here) ∙ same
-            ∙ ap (map to_ascii_lowercase) same_name))) (cases_lt (bit_at left k) 1);
+            ∙ ap (map to_ascii_lowercase) same_name))) (cases_lt (bit_at left (k - at)) 1);
       }
 
 -- one of the pairs has a name after p is pushed exactly if one had it before, or p has it
@@ -264,11 +252,7 @@ keeps_more {whole} {rest} {s} {pairs = pairs} k e p r a =
     let left = valid_pairs (items_in (length s) next) in
     let added = added_pairs pairs (item_in s) in
     let all = first_of_each_name (pairs ++ added) left in
-    let before = (subst (λ x. KeepsOn whole x pairs) (mark_is 59 rest s e) k).kept in
-    rw r (record {
-      begins = begins;
-      kept = cc (first_step pairs (item_in s) left, append_assoc pairs added all);
-    })
+    grind (arith, first_step pairs (item_in s) left, append_assoc pairs added all)
 
 -- if the rest does not begin with ';', the pairs are those that are kept of the items of the whole text
 pub keeps_end : {whole rest : List ℕ} {pairs : List Pair} → KeepsOn whole rest pairs → BeginsParameters whole
@@ -313,8 +297,7 @@ module _ {old : KeptParameters} (name value : String Global) (x : IsIndexed old)
         → (pairs_of kept ≡ pairs_of old ++ unless_named (pairs_of old) (pair_of (name, value) ∷ [])) × IsIndexed kept
     pushed_first kept place b i l e g s f =
         let len = length-map old.pairs.items (λ q. pair_of q) in
-        let its : b ≡ fingerprint_of (code_points name) = g ∙ ap fingerprint_of
-        (ap (map to_ascii_lowercase) (lowercase_bytes name lower) ∙ lower_is_itself (code_points name) lower) in
+        let its : b ≡ fingerprint_of (code_points name) = grind (arith, lowercase_bytes, lower_is_itself) in
         pushes kept (first_or_later (code_points name) (pairs_of old) ∙ ap₂ (λ a b. a || b) new
         (few_names (code_points name) (pairs_of old) (omega arith)))
         e (ap length s ∙ length-set old.fingerprints place b ∙ x.room)

@@ -1,17 +1,8 @@
 -- A text has one list of items, and at most one record.
-use Rattle.std.proofs.Common.{Some, length, refl, sym, ap, ◌∙◌, subst, append_assoc, append-nil, arith, drop, take}
-use Rattle.std.{proofs.Common.{one-add, ◌+◌, length-append, eqb-true, take-append-drop}, proofs.lemmas.Bool.{not-false}}
-use Rattle.std.proofs.Common.{◌≡◌, ℕ, zero, suc, ◌≤◌, ◌==◌, Bool, false, cond, List, [], ◌∷◌, ◌++◌, Option, true, None}
+use Rattle.std.proofs.{lemmas.Bool.{cases_Bool, not-false}, Common.{inl, inr, Some, length, refl, sym, ap, ◌∙◌, append_assoc, append-nil, arith, drop, take, one-add, ◌+◌, length-append, eqb-true, take-append-drop, ◌≡◌, ℕ, zero, suc, ◌≤◌, ◌==◌, Bool, false, cond, List, [], ◌∷◌, ◌++◌, Option, true, None}}
 use Rattle.std.specs.List.{prefix_len}
-use Rattle.data_url.specs.{CodePoints.{is_http_whitespace, is_token}}
-use Rattle.data_url.proofs.facts.Definitions.{HasOneItemList, HasAtMostOneRecord}
-use Rattle.data_url.specs.Mime.{BeginsParameters, DoesNotBegin, Every, GivesValue, IsParameter, Item, Items, is_quote}
-use Rattle.data_url.specs.Mime.{lone_equals, nothing, plain, quoted, unclosed, unless_empty, IsHead}
-use Rattle.data_url.specs.Steps.Parsing.{Reading, after_mark, front_of, given_reading, in_name, in_value, item_in}
-use Rattle.data_url.specs.Steps.Parsing.{named, plain_reading, quoted_reading, reading, reading_from, reading_in}
-use Rattle.data_url.specs.Url.{without_end, without_start}
-use Rattle.data_url.proofs.mime.TokenTexts.{IsRead, closed_reading, is_closed, is_open, is_read, open_reading}
-use Rattle.data_url.proofs.{mime.TokenTexts.{every_token}, texts.CodePoints.{after_begins, front_is, front_passes}}
+use Rattle.data_url.specs.{CodePoints.{is_http_whitespace, is_token}, Mime.{BeginsParameters, DoesNotBegin, Every, GivesValue, IsParameter, Item, Items, is_quote, lone_equals, nothing, plain, quoted, unclosed, unless_empty, IsHead}, Steps.Parsing.{Reading, after_mark, front_of, given_reading, in_name, in_value, item_in, named, plain_reading, quoted_reading, reading, reading_in}, Url.{without_end, without_start}}
+use Rattle.data_url.proofs.{facts.Definitions.{HasOneItemList, HasAtMostOneRecord}, mime.TokenTexts.{IsRead, closed_reading, is_closed, is_open, is_read, open_reading, every_token}, texts.CodePoints.{after_begins, front_is, front_passes}}
 
 -- if ';' does not pass, a text that is empty or begins with ';' does not begin with a code point that passes
 pub ends_of_rest : (p : ℕ → Bool) → p 59 ≡ false → (rest : List ℕ) → BeginsParameters rest → DoesNotBegin p rest
@@ -93,21 +84,18 @@ is_plain_reading s h =
 -- '=' and any text give the value that is read from the text
 is_given_reading : (s : List ℕ) → IsReading (61 ∷ s) (given_reading s)
 is_given_reading [] = is_plain_reading [] tt
-is_given_reading (c ∷ s) = elim (c == 34) as (λ v. (c == 34) ≡ v → IsReading (61 ∷ c ∷ s) (reading_from (c ∷ s)
-    (cond v (Some s) None))) [
-      | true ↦ λ e. subst (λ d. IsReading (61 ∷ d ∷ s) (quoted_reading s)) (sym (eqb-true c 34 e)) (is_quoted_reading s
-          (is_read false s))
-      | false ↦ λ e. is_plain_reading (c ∷ s) e
-    ] refl
+is_given_reading (c ∷ s) = elim (cases_Bool (c == 34)) [
+  | inl e ↦ rw (eqb-true c 34 e) (is_quoted_reading s (is_read false s))
+  | inr e ↦ rw e (is_plain_reading (c ∷ s) e)
+]
 
 -- reading a text that is empty or begins with ';' or '=' returns a value that it gives, and the rest
 pub is_reading : (x : List ℕ) → DoesNotBegin in_name x → IsReading x (reading_of x)
 is_reading [] h = record { tail = []; joined = refl; gives = nothing; begins = tt }
-is_reading (c ∷ s) h = elim (c == 61) as (λ v. (c == 61) ≡ v → IsReading (c ∷ s) (reading (c ∷ s) (cond v
-    (Some s) None))) [
-      | true ↦ λ e. subst (λ d. IsReading (d ∷ s) (given_reading s)) (sym (eqb-true c 61 e)) (is_given_reading s)
-      | false ↦ λ e. record { tail = []; joined = refl; gives = nothing; begins = grind arith }
-    ] refl
+is_reading (c ∷ s) h = elim (cases_Bool (c == 61)) [
+  | inl e ↦ rw (eqb-true c 61 e) (is_given_reading s)
+  | inr e ↦ rw e (record { tail = []; joined = refl; gives = nothing; begins = grind arith })
+]
 
 -- ';' and s are a parameter with this item, and then the rest
 pub record HasParameterBefore (s : List ℕ) (item : Item) (rest : List ℕ) : Type 0 where
@@ -126,17 +114,7 @@ has_parameter s =
     record {
       text = 59 ∷ (gap ++ (name ++ i.tail));
       joined = grind (arith, take-append-drop, append_assoc, i.joined);
-      is_parameter = record {
-        gap = gap;
-        name = name;
-        tail = i.tail;
-        joined = refl;
-        in_gap = front_passes is_http_whitespace s;
-        begins = not_begins_front is_http_whitespace in_name x (after_begins is_http_whitespace s);
-        in_name = front_passes in_name x;
-        name_is = refl;
-        value_is = i.gives;
-      };
+      is_parameter = grind (arith, front_passes, not_begins_front, after_begins);
       begins = i.begins;
     }
 
@@ -159,8 +137,7 @@ parameter_is s text rest item h e b =
     let x = front_is is_http_whitespace h.gap (h.name ++ more) h.in_gap
     (not_begins_append is_http_whitespace h.name more h.begins ends) in
     let y = front_is in_name h.name more h.in_name (ends_of_tail in_name refl refl h.tail rest item.1 h.value_is b) in
-    let r = reading_is h.tail rest item.1 h.value_is b in
-    grind (arith, h.name_is)
+    grind (arith, reading_is, h.name_is)
 
 -- the items of a text, of which each parameter has a code point; at most n items
 abbrev pub items_in : ℕ → List ℕ → List Item
@@ -170,9 +147,7 @@ items_in (suc n) (c ∷ s) = item_in s ∷ items_in n (reading_in s).rest
 
 -- the text after a parameter is not longer than the text after its ';'
 pub rest_shorter : (s : List ℕ) → length (reading_in s).rest ≤ length s
-rest_shorter s =
-    let h = has_parameter s in
-    omega (arith, ap length h.joined, ap length h.is_parameter.joined, length-append h.text (reading_in s).rest)
+rest_shorter s = grind (arith, has_parameter s, length-append)
 
 -- a text of at most n code points that is empty or begins with ';' has these items
 items_below : (n : ℕ) (r : List ℕ) → length r ≤ n → BeginsParameters r → Items r (items_in n r)
@@ -258,6 +233,5 @@ pub has_at_most_one_record : (s : List ℕ) → HasAtMostOneRecord s
 has_at_most_one_record s m n h k =
     let p = has_parts s h.type_ h.subtype h.parameters h.head in
     let q = has_parts s k.type_ k.subtype k.parameters k.head in
-    let a = items_are (length h.parameters) h.parameters h.record_is.items (omega arith) h.record_is.items_are in
     let b = items_are (length k.parameters) k.parameters k.record_is.items (omega arith) k.record_is.items_are in
-    grind (arith, h.record_is, k.record_is)
+    grind (arith, items_are, h.record_is, k.record_is)

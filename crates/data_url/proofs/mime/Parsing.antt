@@ -1,24 +1,8 @@
 -- What the parser cuts: values of parameters, type, subtype and parameters. For `parse.rt`, `values.rt`, `cuts.rt`.
-use Rattle.std.proofs.Common.{length, take, drop, encode_utf8_all, refl, sym, ap, ◌∙◌, append_assoc, append-nil, arith}
-use Rattle.std.proofs.Common.{take-append-drop, length-take-le, codes, subst, take-take, length-take}
-use Rattle.std.proofs.Common.{◌≡◌, ℕ, zero, suc, ◌+◌, ◌-◌, ◌<◌, ◌==◌, Bool, true, false, not, List, [], ◌∷◌, ◌++◌}
-use Rattle.std.proofs.Common.{◌≤◌, ◌||◌, ◌⊎◌, None, Some, cond, nat_le, encode_utf8, map, Option, eqb-true}
-use Rattle.std.{proofs.Math.Seq.{take-length}, proofs.lemmas.List.{take_rest}, specs.Str.Pattern.{HasCharAt}}
-use Rattle.std.proofs.lemmas.Bool.{agree_below_at, false≢true}
-use Rattle.std.{proofs.lemmas.List.Folds.{list_all-append}, proofs.lemmas.Str.{cons_from_encodes}}
-use Rattle.std.proofs.lemmas.List.Sums.{prefix_len-le-length, prefix_len_passes, suffix_len-le-length}
-use Rattle.std.proofs.lemmas.Str.{chars-append, chars-nil, chars_past_char, encodes-chars, IsUtf8-encode}
-use Rattle.std.{specs.Char.{to_ascii_lowercase}, specs.List.{list_all, prefix_len}, specs.Str.{IsUtf8, chars}}
-use Rattle.data_url.specs.{CodePoints.{is_http_whitespace, is_quotable, is_token}, Url.{without_end, without_start}}
-use Rattle.data_url.specs.Mime.{Every, unless_empty, BeginsParameters, IsHead, is_token_text, valid_of}
-use Rattle.data_url.specs.Steps.Parsing.{DoesNotEnd}
-use Rattle.data_url.specs.Steps.Parsing.{front_of, in_value, is_escaped, is_quotable_byte, is_unquoted_byte}
-use Rattle.data_url.specs.Steps.Parsing.{item_in, named, pair_if, reading, reading_in, IsTrimmedEnd}
-use Rattle.data_url.specs.Steps.Parsing.{quotable_value, unescaped, HasNoHead, IsTokens, Reading, after_mark, in_name}
-use Rattle.data_url.proofs.{examples.Literals.{on_literals}, texts.CodePoints.{same_empty, trimmed_end_is, cut_by}}
-use Rattle.data_url.proofs.{mime.Items.{after_slash, has_parts, trimmed_of}, runs.Runs.{match_map}}
-use Rattle.data_url.proofs.mime.TokenTexts.{values_steady, whole_front, spaces_end, spaces_steady, names_steady}
-use Rattle.data_url.proofs.texts.CodePoints.{IsCutInto, IsSteady, cut_front, front_further, front_passes, no_chars}
+use Rattle.std.proofs.{Common.{length, take, drop, encode_utf8_all, refl, sym, ap, ◌∙◌, arith, take-append-drop, length-take-le, codes, subst, take-take, length-take, ◌≡◌, ℕ, zero, suc, ◌+◌, ◌-◌, ◌<◌, ◌==◌, Bool, true, false, not, List, [], ◌∷◌, ◌++◌, ◌≤◌, ◌||◌, ◌⊎◌, None, Some, cond, nat_le, encode_utf8, map, Option, eqb-true}, Math.Seq.{take-length}, lemmas.List.{take_rest}, lemmas.Bool.{agree_below_at, false≢true}, lemmas.List.Folds.{list_all-append}, lemmas.List.Sums.{prefix_len-le-length, prefix_len_passes, suffix_len-le-length}, lemmas.Str.{chars_past_char, encodes-chars}}
+use Rattle.std.specs.{Str.Pattern.{HasCharAt}, Char.{to_ascii_lowercase}, List.{list_all, prefix_len}, Str.{IsUtf8, chars}}
+use Rattle.data_url.specs.{CodePoints.{is_http_whitespace, is_quotable, is_token}, Url.{without_end, without_start}, Mime.{Every, unless_empty, BeginsParameters, IsHead, is_token_text, valid_of}, Steps.Parsing.{DoesNotEnd, front_of, in_value, is_escaped, is_quotable_byte, is_unquoted_byte, item_in, named, pair_if, reading, reading_in, IsTrimmedEnd, quotable_value, unescaped, HasNoHead, IsTokens, after_mark, in_name}}
+use Rattle.data_url.proofs.{examples.Literals.{on_literals}, texts.CodePoints.{same_empty, trimmed_end_is, IsCutInto, IsSteady, cut_front, front_further, front_passes}, mime.Items.{has_parts, trimmed_of}, runs.Runs.{match_map}, mime.TokenTexts.{values_steady, whole_front, spaces_end, spaces_steady, tokens}}
 use lib.Utf8.{encode}
 
 -- a byte of the UTF-8 of quoted-string code points is below 196
@@ -31,16 +15,11 @@ low_quotable : (c : ℕ) → c < 2048 → list_all is_quotable_byte (encode c) �
 unfolding encode is_quotable is_quotable_byte
 low_quotable c l = agree_below_at (λ x. list_all is_quotable_byte (encode x)) is_quotable 2048 c refl l
 
--- the bytes of a code point that is at least 2048 are not all quotable
-high_quotable : (c : ℕ) → 2048 ≤ c → list_all is_quotable_byte (encode c) ≡ false
-unfolding encode
-high_quotable c l = grind (arith, quotable_byte_below)
-
 -- the bytes of an encoded text are all quotable exactly if its code points are all quotable
 quotable_bytes : (cs : List ℕ) → list_all is_quotable_byte (encode_utf8_all cs) ≡ list_all is_quotable cs
-unfolding is_quotable
+unfolding encode is_quotable
 quotable_bytes [] = refl
-quotable_bytes (c ∷ cs) = grind (arith, list_all-append, low_quotable, high_quotable, quotable_bytes cs)
+quotable_bytes (c ∷ cs) = grind (arith, list_all-append, low_quotable, quotable_byte_below, quotable_bytes cs)
 
 -- each byte of a UTF-8 text passes `is_quotable_byte` exactly if each of its code points passes `is_quotable`
 quotable_chars : (bs : List ℕ) → IsUtf8 bs → list_all is_quotable_byte bs ≡ list_all is_quotable (chars bs)
@@ -171,10 +150,6 @@ token_not_nil (c ∷ a) h e = absurd (cc)
 pub no_type : (s t : List ℕ) → t ≡ trimmed_of is_http_whitespace s → front_of is_token t ≡ [] → HasNoHead s
 no_type s t e z a b c h = grind (arith, has_parts, token_not_nil)
 
--- the text after the slash is the one that is read
-slash_is : {t a x : List ℕ} → IsTokens t a x → (y : List ℕ) → after_mark 47 x ≡ Some y → after_slash t ≡ y
-slash_is {x = x} first y slash = grind (arith, mark_is)
-
 module _ {s t a x : List ℕ} (first : IsTokens t a x) (e : t ≡ trimmed_of is_http_whitespace s) where
   -- if the text after the type does not begin with '/', there is no head
   pub no_slash : after_mark 47 x ≡ None → HasNoHead s
@@ -183,34 +158,17 @@ module _ {s t a x : List ℕ} (first : IsTokens t a x) (e : t ≡ trimmed_of is_
   module _ (y : List ℕ) (slash : after_mark 47 x ≡ Some y) where
     -- if the subtype is empty, there is no head
     pub no_subtype : front_of is_token y ≡ [] → HasNoHead s
-    no_subtype z a' b c h =
-        let p = has_parts s a' b c h in
-        absurd (token_not_nil b h.is_subtype (cc (p.subtype_is, slash_is first y slash)))
+    no_subtype z a' b c h = grind (arith, has_parts s a' b c h, token_not_nil, mark_is)
 
     module _ {b z : List ℕ} (bs : List ℕ) (second : IsTokens y b z) (r : chars bs
         ≡ without_start is_http_whitespace z) where
       -- if the text after the subtype and HTTP whitespace is not empty and does not begin with ';', there is no head
       pub no_parameters : (length (chars bs) == 0) ≡ false → after_mark 59 (chars bs) ≡ None → HasNoHead s
-      no_parameters n m a' b' c h =
-          let p = has_parts s a' b' c h in
-          let same : chars bs ≡ c = cc (p.parameters_are, slash_is first y slash, second.after) in
-          not_begins (chars bs) m n (rw same h.begins)
+      no_parameters n m a' b' c h = grind (arith, has_parts s a' b' c h, mark_is, not_begins)
 
       -- if that text is empty or begins with ';', the parts are the head
       pub is_head : BeginsParameters (chars bs) → IsHead s a b (chars bs)
-      is_head begins = record {
-        gap = front_of is_http_whitespace z;
-        joined = grind (arith, take-append-drop, mark_is);
-        is_type = first.token;
-        is_subtype = second.token;
-        in_gap = front_passes is_http_whitespace z;
-        begins = begins;
-      }
-
--- the pair that is read
-pair_by : (s name : List ℕ) {r : Reading} (value : Option (List ℕ)) → r ≡ reading_in s → name ≡ front_of in_name
-    (named s) → value ≡ quotable_value r.value → pair_if (map to_ascii_lowercase name) value ≡ valid_of (item_in s)
-pair_by s name value e n v = grind arith
+      is_head begins = grind (arith, take-append-drop, mark_is, front_passes is_http_whitespace z)
 
 -- the pair and the rest that are read from a text that is cut after a name
 pub parameter_by : (s t front after : List ℕ) {o : Option (List ℕ)} → chars front ≡ front_of in_name (chars t)
@@ -218,9 +176,7 @@ pub parameter_by : (s t front after : List ℕ) {o : Option (List ℕ)} → char
     → (value : Option (List ℕ)) → value ≡ quotable_value (reading (chars after) o).value
     → (pair_if (map to_ascii_lowercase (chars front)) value ≡ valid_of (item_in s))
     × ((reading (chars after) o).rest ≡ (reading_in s).rest)
-parameter_by s t front after {o = o} g h k m value v =
-    let by : reading (chars after) o ≡ reading_in s = cc in
-    (pair_by s (chars front) value by (cc) v, ap (λ (r : Reading). r.rest) by)
+parameter_by s t front after {o = o} g h k m value v = grind arith
 
 -- if t ++ back is empty or begins with ';', t is empty or begins with ';'
 front_begins : (t back : List ℕ) → BeginsParameters (t ++ back) → BeginsParameters t
@@ -250,7 +206,7 @@ plain_head_is s t b e = record {
 pub ruleset marks = (encodes-chars, match_map, has_mark, no_mark)
 
 -- the lemmas for `cuts.rt`
-pub ruleset cuts = (marks, cut_front, spaces_end, spaces_steady, values_steady, suffix_len-le-length, length-take-le)
+pub ruleset cuts = (marks, tokens, spaces_end, spaces_steady, values_steady, suffix_len-le-length, length-take-le)
 
 -- the lemmas for `read_head`
 pub ruleset heads = (same_empty, begins_empty, begins_mark, is_head, no_parameters, no_slash, no_subtype, no_type)

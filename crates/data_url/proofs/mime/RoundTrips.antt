@@ -1,32 +1,8 @@
 -- Printed records: `Display` and `PartialEq` of `Mime`, and that parsing a printed record returns the record.
-use Rattle.std.{proofs.Common.{Decides, IsTrue}, specs.List.{flat_map, AllZip, list_all, prefix_len}}
-use Rattle.std.specs.Str.{IsUtf8, chars}
-use Rattle.std.proofs.Common.{String, string_bytes, map, encode_utf8, encode_utf8_all, refl, sym, subst, append_assoc}
-use Rattle.std.proofs.Common.{append-nil, drop-cons, drop_of_length-le, arith, ◌==◌, ◌||◌, ◌&&◌, not, Some, ap, ◌↔◌}
-use Rattle.std.proofs.Common.{◌≡◌, ℕ, ◌+◌, ◌<◌, ◌≤◌, Bool, true, false, List, [], ◌∷◌, ◌++◌, length, get_or, drop}
-use Rattle.std.proofs.Output.{has_written_styled_append, has_written_styled_nil, has_written_styled_of_eq}
-use Rattle.std.proofs.lemmas.Bool.{and_from, and_parts, agree_below, agree_below_at, both_ways, cond-true, cond_both}
-use Rattle.std.proofs.lemmas.Bool.{eqb-false, or_parts, false≢true}
-use Rattle.std.{proofs.lemmas.List.Folds.{list_any-append}, proofs.lemmas.Slice.Eq.{bytes_eq-Decides}}
-use Rattle.std.{proofs.lemmas.Simd.{map-map}, proofs.lemmas.Str.{encodes-chars}, specs.Fmt.{HasWrittenStyled, IsFlush}}
-use Rattle.std.proofs.lemmas.Str.{IsUtf8-append, IsUtf8-string_bytes, chars_past_char, encode_ascii, encodes-append}
-use Rattle.std.{specs.Cmp.Lexicographic.{pointwise}, specs.declared.fmt.Formatter.{Formatter}}
-use Rattle.data_url.specs.CodePoints.{ends_name, is_http_whitespace, is_quotable, is_semicolon, is_token}
-use Rattle.data_url.specs.Mime.{BeginsParameters, DoesNotBegin, Every, GivesValue, IsHead, IsParameter}
-use Rattle.data_url.specs.Steps.Parsing.{DoesNotEnd}
-use Rattle.data_url.specs.Mime.{IsWellformed, Item, Items, Parses, Quoted, Record, first_of_each_name}
-use Rattle.data_url.specs.Mime.{Without, escaped_code_point, is_token_text, printed, printed_pair, printed_value, Pair}
-use Rattle.data_url.specs.Mime.{has_distinct_names, has_name, is_lowercase_name, is_quote, kept_pairs, plain, quoted}
-use Rattle.data_url.specs.Mime.{unless_empty, valid_pairs, after_backslash, nothing_quoted, as_itself}
-use Rattle.data_url.specs.MimeType.{code_points, pair_of, record_of, SameTexts, same_pair, same_texts, texts_of_pair}
-use Rattle.data_url.specs.{Steps.Parsing.{HasLowercaseNames, is_escaped}, Steps.Printing.{Adds, IsHeld, held}}
-use Rattle.data_url.specs.{declared.mime.Mime.{Mime}, declared.mime.line.Line.{Line}}
-use Rattle.data_url.proofs.mime.FirstNames.{lower_is_itself, test_from_different}
-use Rattle.data_url.proofs.mime.Items.{not_begins_append, has_at_most_one_record}
-use Rattle.data_url.proofs.mime.Parsing.{ends_after, unescaped_steady, whole_passes}
-use Rattle.data_url.proofs.mime.TokenTexts.{every_token, token_below}
-use Rattle.data_url.proofs.texts.CodePoints.{no_chars, end_stays, not_ends_every, front_is}
-use lib.Utf8.{encode}
+use Rattle.std.proofs.{lemmas.Grind.{common_steps}, Common.{Decides, IsTrue, String, string_bytes, map, encode_utf8, encode_utf8_all, refl, sym, subst, append_assoc, append-nil, drop-cons, drop_of_length-le, arith, ◌==◌, ◌||◌, ◌&&◌, not, Some, ap, ◌↔◌, ◌≡◌, ℕ, ◌+◌, ◌<◌, ◌≤◌, Bool, true, false, List, [], ◌∷◌, ◌++◌, length, get_or, drop}, Output.{has_written_styled_append, has_written_styled_nil, has_written_styled_of_eq}, lemmas.Bool.{and_from, and_parts, agree_below, agree_below_at, cond-true, cond_both, eqb-false, or_parts, false≢true}, lemmas.Slice.Eq.{bytes_eq-Decides}, lemmas.Simd.{map-map}, lemmas.Str.{encodes-chars, IsUtf8-append, IsUtf8-string_bytes, chars_past_char, encode_ascii, encodes-append}}
+use Rattle.std.specs.{List.{flat_map, AllZip, list_all, prefix_len}, Str.{IsUtf8, chars}, Fmt.{HasWrittenStyled, IsFlush}, Cmp.Lexicographic.{pointwise}, declared.fmt.Formatter.{Formatter}}
+use Rattle.data_url.specs.{CodePoints.{ends_name, is_http_whitespace, is_quotable, is_semicolon, is_token}, Mime.{BeginsParameters, DoesNotBegin, Every, GivesValue, IsHead, IsParameter, IsWellformed, Item, Items, Parses, Quoted, Record, first_of_each_name, Without, escaped_code_point, is_token_text, printed, printed_pair, printed_value, Pair, has_distinct_names, has_name, is_lowercase_name, is_quote, kept_pairs, plain, quoted, unless_empty, valid_pairs, after_backslash, nothing_quoted, as_itself}, Steps.Parsing.{DoesNotEnd, HasLowercaseNames, is_escaped}, MimeType.{code_points, pair_of, record_of, SameTexts, same_pair, same_texts, texts_of_pair}, Steps.Printing.{Adds, IsHeld, held}, declared.mime.Mime.{Mime}, declared.mime.line.Line.{Line}}
+use Rattle.data_url.proofs.{mime.FirstNames.{lower_is_itself, test_from_different}, mime.Items.{not_begins_append, has_at_most_one_record}, mime.Parsing.{ends_after, unescaped_steady, whole_passes}, mime.TokenTexts.{every_token, token_below}, texts.CodePoints.{no_chars, end_stays, not_ends_every, front_is}}
 
 -- moving the first code point of r, escaped, to the bytes so far preserves that these and the escaped r are the whole
 pub escaped_more : (r r' done whole : List ℕ) (c : ℕ) → IsUtf8 r → r ≡ encode_utf8 c ++ r' → done
@@ -44,15 +20,12 @@ plain_chars : (cs : List ℕ) → Without is_escaped cs → flat_map escaped_cod
 plain_chars [] h = refl
 plain_chars (c ∷ cs) h = grind (arith, plain_chars cs h.1)
 
--- a text without '"' and '\' is the UTF-8 of its escaped code points
-pub plain_text : (v : List ℕ) → IsUtf8 v → Without is_escaped (chars v)
-    → v ≡ encode_utf8_all (flat_map escaped_code_point (chars v))
-plain_text v u h = grind (arith, encodes-chars, encode_utf8_all, plain_chars)
-
--- so it is if as many bytes as it has pass at its front
+-- a text that has as many bytes other than '"' and '\' at its front as bytes is the UTF-8 of its escaped code points
 pub plain_copy : (v bytes : List ℕ) (n : ℕ) → IsUtf8 v → bytes ≡ v → n ≡ prefix_len (λ c. not (is_escaped c)) bytes
     → n ≡ length v → v ≡ encode_utf8_all (flat_map escaped_code_point (chars v))
-plain_copy v bytes n u e f g = plain_text v u (whole_passes _ unescaped_steady v bytes n u e f g)
+plain_copy v bytes n u e f g =
+    let passes = whole_passes _ unescaped_steady v bytes n u e f g in
+    grind (arith, encodes-chars, encode_utf8_all, plain_chars)
 
 -- a token text is printed as it is
 pub token_value_text : (v : List ℕ) (b : Bool) → IsUtf8 v → b ≡ is_token_text (chars v) → b ≡ true
@@ -65,9 +38,9 @@ pub quoted_value_text : (v : List ℕ) (b : Bool) → b ≡ is_token_text (chars
 quoted_value_text v b e h = grind (arith, encode_ascii, encodes-append)
 
 -- ';', the name, '=', and the printed value are the UTF-8 of the printed pair
-pub parameter_text : (name value : List ℕ) → IsUtf8 name → (((59 ∷ []) ++ name) ++ (61 ∷ []))
-    ++ encode_utf8_all (printed_value (chars value)) ≡ encode_utf8_all (printed_pair (chars name, chars value))
-parameter_text name value u = grind (arith, encode_ascii, append_assoc, encodes-chars, encodes-append)
+pub parameter_text : (name value text : List ℕ) → IsUtf8 name → text ≡ encode_utf8_all (printed_value (chars value))
+    → (((59 ∷ []) ++ name) ++ (61 ∷ [])) ++ text ≡ encode_utf8_all (printed_pair (chars name, chars value))
+parameter_text name value text u e = grind (arith, encode_ascii, append_assoc, encodes-chars, encodes-append)
 
 -- the bytes of a `String` are the UTF-8 of its code points
 pub text_bytes : {A : Type 0} (s : String A) → string_bytes s ≡ encode_utf8_all (code_points s)
@@ -126,11 +99,7 @@ module _ {W : Type 0} {took : W → List ℕ → W → Type 0} {f g : Formatter 
       → b ≡ string_bytes r.subtype → Adds took f l ((a ++ (47 ∷ [])) ++ b) g m
       → Prints took f (pairs_text r.parameters.items) (encode_utf8_all (printed (record_of r))) g m
   unfolding printed
-  prints_starts r a b z d e x = record {
-    written = x.written;
-    wrote = x.wrote;
-    joined = grind (arith, append_assoc, encode_ascii, text_bytes, encodes-append);
-  }
+  prints_starts r a b z d e x = grind (arith, append_assoc, encode_ascii, text_bytes, encodes-append)
 
   module _ {A B : Type 0} {pairs items : List (String A × String B)} {start : Formatter W} (i : ℕ) {whole : List ℕ}
       (x : Prints took start (pairs_text (drop i pairs)) whole f l) (e : items ≡ pairs) where
@@ -152,6 +121,9 @@ module _ {W : Type 0} {took : W → List ℕ → W → Type 0} {f g : Formatter 
 
 -- the lemmas for `line.rt`
 pub ruleset lines = (adds_held, adds_after, adds_written, held_more)
+
+-- the lemmas for `push_escaped`
+pub ruleset escaping = (adds_same, adds_written, plain_copy)
 
 -- the test of two lists, pair by pair, is true exactly if the lists have equal texts
 pairs_decide : {A B : Type 0} (ps qs : List (String A × String B))
@@ -302,8 +274,7 @@ all_valid (p ∷ pairs) h k = grind (arith, and_parts, cond-true, and_from, all_
 distinct_new : (e : List Pair) (p : Pair) (ps : List Pair) → has_distinct_names (e ++ (p ∷ ps)) ≡ true
     → has_name p.0 e ≡ false
 distinct_new [] p ps h = refl
-distinct_new (q ∷ e) p ps h =
-    grind (arith, list_any-append {X = Pair}, test_from_different, both_ways, bytes_eq-Decides, distinct_new e p ps)
+distinct_new (q ∷ e) p ps h = grind (arith, common_steps, distinct_new e p ps, test_from_different)
 
 -- pairs with distinct names are all the first of their name
 first_itself : (e ps : List Pair) → has_distinct_names (e ++ ps) ≡ true → first_of_each_name e ps ≡ ps
@@ -317,16 +288,12 @@ all_kept m w = grind (arith, all_valid, first_itself)
 -- a well-formed record, printed, does not begin with HTTP whitespace
 printed_begins : (m : Record) → IsWellformed m → DoesNotBegin is_http_whitespace (printed m)
 unfolding printed is_token
-printed_begins m w = not_begins_append is_http_whitespace m.type_ _
-    (tokens_begin is_http_whitespace refl m.type_ (name_tokens m.type_ w.type_)) refl
+printed_begins m w = search (arith, not_begins_append, tokens_begin, name_tokens)
 
 -- a well-formed record, printed, does not end with HTTP whitespace
 printed_ends : (m : Record) → IsWellformed m → DoesNotEnd is_http_whitespace (printed m)
 unfolding printed is_token
-printed_ends m w = rw (← append_assoc m.type_ (47 ∷ m.subtype) (flat_map printed_pair m.parameters))
-    (pairs_not_end m.parameters (m.type_ ++ (47 ∷ m.subtype)) (ends_with is_http_whitespace m.type_ 47 m.subtype
-    (ends_after is_http_whitespace 47 m.subtype refl
-    (tokens_end is_http_whitespace refl m.subtype (name_tokens m.subtype w.subtype)))))
+printed_ends m w = search (arith, append_assoc, pairs_not_end, ends_with, ends_after, tokens_end, name_tokens)
 
 -- a well-formed record, printed, has its type, its subtype and its printed parameters as head
 printed_head : (m : Record) → IsWellformed m → IsHead (printed m) m.type_ m.subtype (flat_map printed_pair m.parameters)

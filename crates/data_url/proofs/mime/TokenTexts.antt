@@ -1,21 +1,9 @@
--- Texts of token code points, and quoted strings. For `tokens.rt`, `values.rt` and `split_quote`.
-use Rattle.std.proofs.Common.{append_assoc, append-nil, eqb-true, inl, inr, zero, suc, get_or, encode_utf8_all}
-use Rattle.std.{proofs.Common.{drop-drop, ◌||◌, ◌⊎◌, ◌≢◌}, proofs.lemmas.List.{take_rest}}
-use Rattle.std.proofs.lemmas.Bool.{agree_below_at, and_parts, and_from, cases_lt, eqb-false}
-use Rattle.std.proofs.Common.{refl, sym, ap, subst, Bool, ◌∙◌, arith, take, drop, length-take-le, ◌+◌, cond, ◌++◌}
-use Rattle.std.proofs.Common.{take-append-drop, drop-cons, add-one, drop_of_length-le, Some, nat_le, length-append}
-use Rattle.std.proofs.Common.{◌-◌, ◌≡◌, ℕ, ◌<◌, ◌≤◌, ◌==◌, ◌&&◌, nat_lt, codes, true, false, not, List, [], ◌∷◌, length}
-use Rattle.std.{proofs.Math.Seq.{take-append_seam, take-length, drop-append-add}, specs.Str.{IsAscii, IsUtf8, chars}}
-use Rattle.std.proofs.lemmas.List.Sums.{prefix_len-le-length, prefix_len_passes}
-use Rattle.std.specs.List.{list_all, list_any, prefix_len, suffix_len}
-use Rattle.std.proofs.lemmas.Str.{chars-IsAscii, encodes-IsAscii, encodes-chars, chars-nil, chars_past_char}
-use Rattle.std.proofs.lemmas.Str.{encode_ascii, IsUtf8-drop, IsCharBoundary-before_ascii, IsCharBoundary-after_ascii}
-use Rattle.data_url.specs.{CodePoints.{is_http_whitespace, is_token}, Url.{without_start}}
-use Rattle.data_url.specs.Mime.{Every, is_token_text, Quoted, QuotedOpen, after_backslash, nothing_quoted, as_itself}
-use Rattle.data_url.specs.Steps.Parsing.{IsTokens, front_of, in_name, in_value, quoted_len, quoted_reading, unescaped}
-use Rattle.data_url.proofs.texts.CodePoints.{IsCutInto, IsEnd, IsSteady, cut_end, cut_front, every_ascii, front_passes}
-use Rattle.data_url.proofs.texts.CodePoints.{cut_into, front_further}
-use lib.Utf8.{encode}
+-- Texts of token code points, and quoted strings and their values. For `cuts.rt`, `values.rt` and `split_quote`.
+use Rattle.std.proofs.{lemmas.Grind.{common_steps}, Common.{append_assoc, append-nil, eqb-true, inl, inr, zero, suc, get_or, encode_utf8_all, drop-drop, ◌⊎◌, ◌≢◌, refl, sym, ap, subst, Bool, ◌∙◌, arith, take, drop, length-take-le, ◌+◌, cond, ◌++◌, take-append-drop, drop-cons, add-one, drop_of_length-le, Some, nat_le, length-append, ◌-◌, ◌≡◌, ℕ, ◌<◌, ◌≤◌, ◌==◌, ◌&&◌, nat_lt, codes, true, false, not, List, [], ◌∷◌, length, length-drop, one-add, take_all, slice_index, min, take-add, take-take}, lemmas.List.{take_rest, get_or-drop}, lemmas.Bool.{and_parts, and_from, cases_lt, eqb-false, not-false}, Math.Seq.{take-append_seam, take-length, drop-append-add, take-append-add}, lemmas.List.Sums.{prefix_len-le-length, prefix_len_passes, prefix_len_stops}, lemmas.Str.{chars-IsAscii, encodes-IsAscii, encodes-chars, chars-nil, chars_past_char, encode_ascii, IsUtf8-drop, IsCharBoundary-before_ascii, IsCharBoundary-after_ascii, chars-encodes, scalars-chars}}
+use Rattle.std.specs.{Str.{IsAscii, IsUtf8, chars}, List.{list_all, list_any, prefix_len, suffix_len}}
+use Rattle.data_url.specs.{CodePoints.{is_http_whitespace, is_token}, Url.{without_start}, Mime.{Every, is_token_text, Quoted, QuotedOpen, after_backslash, nothing_quoted, as_itself}, Steps.Parsing.{IsTokens, front_of, in_name, in_value, quoted_len, quoted_reading, unescaped, Quoting, is_escaped}, Steps.Classes.{AreOf, is_marked}, declared.classes.TheConstants.{ESCAPED}}
+use Rattle.data_url.proofs.{texts.CodePoints.{IsCutInto, IsEnd, IsSteady, cut_end, cut_front, every_ascii, front_passes, cut_into, front_further}, classes.Rows.{Looked, unmarked_passes}}
+use lib.Utf8.{encode, scalars}
 
 -- a code point that is not ASCII is none of some ASCII marks
 any_other : (c : ℕ) (marks : List ℕ) → list_all (λ m. nat_lt m 128) marks ≡ true → 128 ≤ c
@@ -106,22 +94,10 @@ module _ (bs : List ℕ) (n : ℕ) (u : IsUtf8 bs) (e : n ≡ prefix_len is_toke
       let cut = cut_front is_token tokens_steady bs u in
       let long : length (take n bs) ≡ n = length-take-le n bs (omega (arith, prefix_len-le-length is_token bs)) in
       let tokens = subst (λ k. Every is_token (take k bs)) (sym e) (front_passes is_token bs) in
-      let token = nonempty_tokens (take n bs) tokens (λ k. absurd (omega (arith, ap length k, z))) in
-      record {
-        front = cc (cut.front);
-        after = cc (cut.after);
-        token = cc (chars-IsAscii (take n bs) (token_text_ascii (take n bs) token));
-      }
+      grind (arith, nonempty_tokens, chars-IsAscii, token_text_ascii)
 
--- the lemmas for `tokens.rt`
+-- the lemmas for texts of token code points
 pub ruleset tokens = (tokens_steady, cut_front, chars-nil, token_text_by, some_tokens)
-
--- a token code point does not end a name
-token_in_name : (c : ℕ) → is_token c ≡ true → in_name c ≡ true
-unfolding is_token
-token_in_name c h =
-    let same = agree_below_at (λ b. not (is_token b) || in_name b) (λ b. true) 128 c refl (token_below c h) in
-    grind arith
 
 -- the first n items of a text pass exactly if its longest prefix that passes has n or more
 front_all : (p : ℕ → Bool) (n : ℕ) (s : List ℕ) → n ≤ length s → list_all p (take n s) ≡ nat_le n (prefix_len p s)
@@ -134,10 +110,9 @@ module _ {text bytes : List ℕ} {tokens more : ℕ} (u : IsUtf8 text) (e : byte
     (drop tokens bytes))) where
   -- the name is its longest prefix of token code points, and what follows up to the first ';' or '='
   name_length : tokens + more ≡ prefix_len in_name text
+  unfolding is_token
   name_length =
-      let passes : (k : ℕ) → k < tokens → in_name (get_or bytes k 0) ≡ true =
-      λ k l. token_in_name _ (prefix_len_passes is_token bytes k 0 (omega arith)) in
-      grind (arith, take_rest, front_further, prefix_len-le-length)
+      grind (arith, common_steps, token_below, prefix_len_passes, take_rest, front_further, prefix_len-le-length)
 
   -- a UTF-8 text can be cut after the name
   pub cut_name : IsCutInto text (tokens + more) (front_of in_name (chars text)) (without_start in_name (chars text))
@@ -151,7 +126,6 @@ module _ {text bytes : List ℕ} {tokens more : ℕ} (u : IsUtf8 text) (e : byte
       let long : length name ≡ tokens + more = ap length h ∙ length-take-le (tokens + more) text within in
       let all : list_all is_token name ≡ nat_le (tokens + more) (prefix_len is_token text) =
       ap (list_all is_token) h ∙ front_all is_token (tokens + more) text within in
-      let all' = whole_front is_token name in
       let token = token_text_is name in
       let chars' = token_text_chars name w in
       grind arith
@@ -190,8 +164,7 @@ closed_reading q v w h =
 -- a quoted string without a closing quote is read as its value, and nothing is left
 pub open_reading : (q v : List ℕ) → QuotedOpen q v → quoted_reading q ≡ record { value = Some v; rest = [] }
 open_reading q v h =
-    let o = quoted_open q v h in
-    cc (o.0, o.1, drop_of_length-le q {i = suc (length q)} (omega arith), take-length q)
+    grind (arith, quoted_open q v h, drop_of_length-le q {i = suc (length q)} (omega arith), take-length q)
 
 -- the text with a backslash before it if the flag is true
 abbrev pub flagged : Bool → List ℕ → List ℕ
@@ -292,3 +265,139 @@ no_quote {bs} {bytes} {i} u b l h =
 
 -- the lemmas for `split_quote`
 pub ruleset quotes = (cut_quote, quote_at, after_quote, no_quote, IsCharBoundary-after_ascii)
+
+-- a code point other than '"' and '\'
+abbrev plain : ℕ → Bool
+plain c = not (is_escaped c)
+
+-- a first code point other than '"' and '\' stands for itself
+first_plain : (c : ℕ) (cs : List ℕ) → plain c ≡ true → unescaped false (c ∷ cs) ≡ c ∷ unescaped false cs
+first_plain c cs h = grind arith
+
+-- the bytes that a text begins with, and that are not marked, stand for themselves
+pub plain_front : (text : List ℕ) (n : ℕ) → n ≤ length text → ((i : ℕ) → slice_index text i < 256)
+    → AreOf ESCAPED text n → unescaped false text ≡ take n text ++ unescaped false (drop n text)
+plain_front text zero l f h = refl
+plain_front [] (suc n) l f h = absurd (omega arith)
+plain_front (b ∷ text) (suc n) l f h =
+    let first = first_plain b text (unmarked_passes (is_marked ESCAPED) plain refl b (f 0) (h 0 (omega arith))) in
+    let more = plain_front text n (omega arith) (λ i. f (suc i)) (λ k m. h (suc k) (omega arith)) in
+    cc
+
+-- the first bytes of a text are copied to a place of a value
+pub record IsCopied (text before value : List ℕ) (len n : ℕ) : Type 0 where
+  pub front : Looked ESCAPED text n
+  pub value_is : take (len + n) value ≡ take len before ++ take n text
+
+-- if a row is put after them, so are the first t bytes of the row
+pub copies_on : {text before value row : List ℕ} {len n : ℕ} (after : List ℕ) (t : ℕ) → IsCopied text before value len n
+    → len + n ≤ length value → row ≡ take 16 (drop n text) → take (len + n + 16) after ≡ take (len + n) value ++ row
+    → t ≤ 16 → take (len + (n + t)) after ≡ take len before ++ take (n + t) text
+copies_on {text} {before} {value} {row} {len} {n} after t h l r e m =
+    let front = take (len + n) value in
+    let long : length front ≡ len + n = length-take-le (len + n) value l in
+    let part : take (len + (n + t)) (take (len + n + 16) after) ≡ take (len + (n + t)) after =
+    take-take (len + (n + t)) (len + n + 16) after (omega arith) in
+    let size : len + (n + t) ≡ length front + t = omega arith in
+    let joined : take (len + (n + t)) (front ++ row) ≡ front ++ take t row =
+    ap (λ i. take i (front ++ row)) size ∙ take-append-add front row t in
+    let some : take t row ≡ take t (drop n text) = ap (take t) r ∙ take-take t 16 (drop n text) m in
+    cc (h.value_is, append_assoc (take len before) (take n text) (take t (drop n text)), take-add n t text)
+
+-- the bytes of a value so far, and the value of the bytes from a place on, are the value of the whole text
+pub record Unescaping (bytes value : List ℕ) (at len : ℕ) : Type 0 where
+  pub within : at ≤ length bytes
+  pub few : len ≤ at
+  pub size : length value ≡ length bytes
+  pub value_is : take len value ++ unescaped false (drop at bytes) ≡ unescaped false bytes
+
+-- at the end, the bytes are the value of the text
+pub unescapes_all : {bytes value bs : List ℕ} {at len : ℕ} (v : List ℕ) → Unescaping bytes value at len
+    → length bytes ≤ at → v ≡ take len value → bytes ≡ bs → v ≡ unescaped false bs
+unescapes_all {bytes} {value} {bs} {at} {len} v h l e f = grind (arith, drop_of_length-le, append-nil)
+
+-- bytes that are not ASCII stand for themselves
+others_stay : (bs r : List ℕ) → Every (λ b. nat_le 128 b) bs → unescaped false (bs ++ r) ≡ bs ++ unescaped false r
+others_stay [] r h = refl
+others_stay (b ∷ bs) r h = grind (arith, others_stay bs r h.1)
+
+-- an encoded code point stands for itself, unless it is a '\' that escapes
+unescaped_char : (e : Bool) (c : ℕ) (r : List ℕ) → unescaped e (encode c ++ r)
+    ≡ cond ((c == 92) && not e) (unescaped true r) (encode c ++ unescaped false r)
+unfolding encode
+unescaped_char true c r = grind arith
+unescaped_char false c r = grind (arith, cases_lt, encode_ascii, others_stay, encode, encode_others)
+
+-- the value of the bytes of a text is the value of the text, encoded
+unescaped_encodes : (e : Bool) (cs : List ℕ) → unescaped e (encode_utf8_all cs) ≡ encode_utf8_all (unescaped e cs)
+unfolding encode
+unescaped_encodes false [] = refl
+unescaped_encodes true [] = refl
+unescaped_encodes true (c ∷ cs) = grind (arith, unescaped_char, encode_utf8_all, unescaped_encodes false cs)
+unescaped_encodes false (c ∷ cs) = grind (arith, unescaped_char, unescaped_encodes false cs, unescaped_encodes true cs)
+
+-- the code points of a value are scalar values
+unescaped_scalars : (e : Bool) (cs : List ℕ) → scalars cs ≡ true → scalars (unescaped e cs) ≡ true
+unescaped_scalars false [] h = refl
+unescaped_scalars true [] h = refl
+unescaped_scalars true (c ∷ cs) h = grind (arith, unescaped_scalars false cs)
+unescaped_scalars false (c ∷ cs) h = grind (arith, unescaped_scalars false cs, unescaped_scalars true cs)
+
+module _ {bs v : List ℕ} (u : IsUtf8 bs) (e : v ≡ unescaped false bs) where
+  -- so the value of the bytes of a text are the bytes of its value
+  value_encodes : encode_utf8_all (unescaped false (chars bs)) ≡ v
+  value_encodes = sym (e ∙ ap (unescaped false) (sym (encodes-chars bs u)) ∙ unescaped_encodes false (chars bs))
+
+  -- they are UTF-8
+  pub value_utf8 : IsUtf8 v
+  value_utf8 = grind (arith, unescaped_scalars, scalars-chars, value_encodes)
+
+  -- and spell this value
+  pub value_chars : chars v ≡ unescaped false (chars bs)
+  value_chars = grind (arith, value_encodes, chars-encodes, unescaped_scalars, scalars-chars)
+
+-- a code point other than '"' and '\' comes before the closing quote
+first_quoted : (c : ℕ) (s : List ℕ) → plain c ≡ true → quoted_len false (c ∷ s) ≡ suc (quoted_len false s)
+first_quoted c s h = grind arith
+
+-- so do those before the first '"' or '\'
+plain_quoted : (s : List ℕ) → prefix_len plain s + quoted_len false (drop (prefix_len plain s) s) ≡ quoted_len false s
+plain_quoted [] = refl
+plain_quoted (c ∷ s) = elim (plain c) as (λ v. plain c ≡ v → cond v (1 + prefix_len plain s) 0
+    + quoted_len false (drop (cond v (1 + prefix_len plain s) 0) (c ∷ s)) ≡ quoted_len false (c ∷ s)) [
+      | true ↦ λ e. rw one-add (omega (arith, first_quoted c s e, plain_quoted s))
+      | false ↦ λ e. omega arith
+    ] refl
+
+-- a code point that a '\' escapes comes before the closing quote, if there is one
+pair_quoted : (s : List ℕ) (n : ℕ) → n ≡ min 1 (length s) → quoted_len true s ≡ n + quoted_len false (drop n s)
+pair_quoted [] n e = rw e refl
+pair_quoted (c ∷ s) n e = let one : n ≡ 1 = omega arith in rw one (omega arith)
+
+-- if the closing quote is not before a place, it is not before the first '"' or '\' from there on
+pub quoting_from : (bytes : List ℕ) (from m place : ℕ) → from ≤ length bytes
+    → from + quoted_len false (drop from bytes) ≡ quoted_len false bytes → m ≡ prefix_len plain (drop from bytes)
+    → place ≡ from + m → Quoting bytes place
+quoting_from bytes from m place l h f e =
+    grind (arith, prefix_len-le-length, length-drop, prefix_len_stops, get_or-drop, plain_quoted, drop-drop, not-false)
+
+-- after a '\' and the byte that follows it
+pub quoting_next : (bytes : List ℕ) (place from m : ℕ) → Quoting bytes place → place < length bytes
+    → slice_index bytes place ≢ 34 → from ≡ min (length bytes) (place + 2)
+    → m ≡ prefix_len plain (take (length bytes - from) (drop from bytes)) → Quoting bytes (from + m)
+quoting_next bytes place from m h l n e f =
+    let all : take (length bytes - from) (drop from bytes) ≡ drop from bytes =
+    take_all (length bytes - from) (drop from bytes) (omega (arith, length-drop from bytes)) in
+    let more = drop (suc place) bytes in
+    let k = min 1 (length more) in
+    let is : slice_index bytes place ≡ 92 = let mark = h.mark l in grind (arith, eqb-true) in
+    let front : drop place bytes ≡ 92 ∷ more = drop-cons bytes place 0 l ∙ ap (λ b. b ∷ more) is in
+    let at : from ≡ suc place + k = omega (arith, length-drop (suc place) bytes) in
+    let on : drop k more ≡ drop from bytes = drop-drop k (suc place) bytes ∙ ap (λ i. drop i bytes) (omega arith) in
+    quoting_from bytes from m (from + m) (omega arith) (omega (
+      arith,
+      h.joined,
+      ap (quoted_len false) front,
+      pair_quoted more k refl,
+      ap (quoted_len false) on,
+    )) (f ∙ ap (prefix_len plain) all) refl

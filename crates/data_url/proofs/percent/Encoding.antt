@@ -1,23 +1,9 @@
 -- Percent-encoding with the rows of a table, and decoding of encoded texts. For `push_encoded`.
-use Rattle.std.proofs.Common.{append_assoc, ◌≡◌, ℕ, ◌*◌, ◌+◌, ◌-◌, ◌<◌, ◌&&◌, ◌||◌, Bool, false, true, List, [], ◌∷◌}
-use Rattle.std.proofs.Common.{length, take, drop, refl, ◌/◌, ◌%◌, not, ◌++◌, Option, None, Some, sym, ap, ◌∙◌, inl, inr}
-use Rattle.std.{proofs.Common.{length-take-le, take-take}, proofs.lemmas.Slice.Eq.{bytes_eq-Decides}}
-use Rattle.std.proofs.Common.{subst, append-nil, arith, suc, ◌≤◌, get_or, ◌==◌, slice_index, nat_lt, take_all}
-use Rattle.std.proofs.Math.Seq.{take-append-add}
-use Rattle.std.proofs.lemmas.Bool.{agree_below, agree_below_at, and_parts, eqb-true, and_left, cases_Bool, cond_both}
-use Rattle.std.{proofs.lemmas.Bool.{both_ways, ne_eqb, ltb-true, not-true}, specs.Char.{digit_value, is_ascii_hexdigit}}
-use Rattle.std.{proofs.lemmas.Grind.{flat_map-append}, proofs.lemmas.Str.Ascii.{IsAscii-nil}}
-use Rattle.std.{proofs.lemmas.List.{nil_from_length, take_more}, proofs.lemmas.Str.{IsAscii-append, IsUtf8-from_ascii}}
-use Rattle.std.{specs.List.{AllByRecursion, list_all}, specs.Str.{bytes_eq, IsAscii, IsUtf8}}
-use Rattle.data_url.specs.{Percent.{percent_decoding}, declared.percent.EncodeSet.TheVariants.{Fragment, Path, Query}}
-use Rattle.data_url.specs.{Steps.Header.{header_parts, header_text}, Steps.Sets.{IsEntry, byte_encoding, in_set}}
-use Rattle.data_url.specs.Url.{in_path_end_set, percent_encoding, serialised, with_query, without_tabs_and_newlines}
-use Rattle.data_url.specs.Url.{in_path_set, in_query_set, before, after, encoded_byte, encoded_path, hex_digit}
-use Rattle.data_url.specs.declared.percent.EncodeSet.{EncodeSet}
-use Rattle.data_url.proofs.classes.Rows.{unmarked_passes}
-use Rattle.data_url.proofs.texts.Bytes.{after_nil, after_other, after_same, lacks, dropped_keeps, dropped_nil}
-use Rattle.data_url.proofs.texts.Bytes.{dropped_passes, without_tabs_and_newlines-append}
-use Rattle.data_url.proofs.texts.Bytes.{first_byte, before-append, before_at, before_nil, before_other, before_same}
+use Rattle.std.proofs.{lemmas.Grind.{common_steps, flat_map-append}, Common.{append_assoc, ◌≡◌, ℕ, ◌*◌, ◌+◌, ◌-◌, ◌<◌, ◌&&◌, ◌||◌, Bool, false, true, List, [], ◌∷◌, length, take, drop, refl, ◌/◌, ◌%◌, ◌++◌, Option, None, Some, sym, ap, ◌∙◌, inl, inr, length-take-le, take-take, subst, append-nil, arith, suc, ◌≤◌, get_or, ◌==◌, slice_index, nat_lt, take_all}, lemmas.Slice.Eq.{bytes_eq-Decides}, Math.Seq.{take-append-add}, lemmas.Bool.{agree_below, agree_below_at, and_parts, eqb-true, and_left, cases_Bool, cond_both, both_ways, ne_eqb, ltb-true}, lemmas.Str.Ascii.{IsAscii-nil}, lemmas.List.{nil_from_length, take_more}, lemmas.Str.{IsAscii-append, IsUtf8-from_ascii}, lemmas.Slice.{take-put_mid}}
+use Rattle.std.specs.{Char.{digit_value, is_ascii_hexdigit}, List.{AllByRecursion, list_all}, Str.{bytes_eq, IsAscii, IsUtf8}}
+use Rattle.data_url.specs.{Percent.{percent_decoding}, Steps.Header.{header_parts, header_text}, Steps.Sets.{IsEntry, byte_encoding, in_set}, Url.{in_path_end_set, percent_encoding, serialised, with_query, without_tabs_and_newlines, in_path_set, in_query_set, before, after, encoded_byte, encoded_path, hex_digit}, declared.percent.EncodeSet.{EncodeSet}}
+use Rattle.data_url.proofs.{classes.Rows.{unmarked_passes}, texts.Bytes.{after_nil, after_other, after_same, lacks, dropped_keeps, dropped_nil, dropped_passes, without_tabs_and_newlines-append, first_byte, before-append, before_at, before_nil, before_other, before_same}}
+use borrow.Rule.Slice.PartMut.{mid_of, put_mid, same_len_mid}
 
 -- the row of a byte in a table
 abbrev pub entry_at : List ℕ → ℕ → List ℕ
@@ -59,12 +45,7 @@ pub data Recoded : List ℕ → List ℕ → Type 0 where
 
 -- a byte of the set is not a hexadecimal digit
 set_no_hex : (b : ℕ) → b < 256 → in_query_set b ≡ true → is_ascii_hexdigit b ≡ false
-set_no_hex b l h = not-true (is_ascii_hexdigit b)
-    (unmarked_passes (λ b. not (in_query_set b)) (λ b. not (is_ascii_hexdigit b)) refl b l (ap not h))
-
--- and is neither '%' nor ','
-set_other : (b c : ℕ) → in_query_set c ≡ false → in_query_set b ≡ true → (b == c) ≡ false
-set_other b c e h = grind (arith, ne_eqb, both_ways)
+set_no_hex b l h = grind (arith, common_steps, unmarked_passes)
 
 -- the upper-case hexadecimal digit of a number below 16 is a hexadecimal digit with that value
 hex_digit_is : (d : ℕ) → d < 16 → (digit_value (hex_digit d) ≡ d) × (is_ascii_hexdigit (hex_digit d) ≡ true)
@@ -124,7 +105,7 @@ first_no_digit c (d ∷ s) h = grind arith
 pub recoded-decoded : {s x : List ℕ} → Recoded s x → percent_decoding x ≡ percent_decoding s
 recoded-decoded none = refl
 recoded-decoded (written {s} {x} b h l r) =
-    grind (arith, recoded-decoded r, decoded_written, decoded_keeps, and_left, set_other)
+    grind (arith, recoded-decoded r, decoded_written, decoded_keeps, and_left, ne_eqb, both_ways)
 recoded-decoded (kept b none) = refl
 recoded-decoded (kept b (kept c none)) = refl
 recoded-decoded (kept b (written {s} c h l r)) =
@@ -210,15 +191,11 @@ RecodedTails None (Some y) = ⊥
 RecodedTails (Some t) None = ⊥
 RecodedTails (Some t) (Some y) = Recoded t y
 
--- a percent-encoded byte at the front does not change what follows the first comma
-after_written : (b : ℕ) (x : List ℕ) → after 44 (37 ∷ hex_digit (b / 16) ∷ hex_digit (b % 16) ∷ x) ≡ after 44 x
-after_written b x = grind (arith, after_other)
-
 -- if x is s with some bytes encoded, so are the texts after the first comma of both, or neither has a comma
 pub recoded_tails : {s x : List ℕ} → Recoded s x → RecodedTails (after 44 s) (after 44 x)
 recoded_tails none = grind (arith, after_nil)
 recoded_tails (kept {s} {x} b r) = grind (arith, after_same, after_other, recoded_tails r)
-recoded_tails (written {s} {x} b h l r) = grind (arith, after_other, set_other, after_written, recoded_tails r)
+recoded_tails (written {s} {x} b h l r) = grind (arith, after_other, ne_eqb, both_ways, recoded_tails r)
 
 -- if a set does not have the comma, cutting at the first comma and encoding can be done in either order
 before_encoded : (p : ℕ → Bool) → p 44 ≡ false → (s : List ℕ) → before 44 (percent_encoding p s) ≡ percent_encoding p
@@ -315,20 +292,23 @@ pub record PutTo (p : ℕ → Bool) (s : List ℕ) (i : ℕ) (room : List ℕ) (
   pub wrote : take at room ≡ encoded p (take i s)
 
 -- if the row of byte i is put after them, so are the bytes before byte i + 1
-pub put_more : (p : ℕ → Bool) (s : List ℕ) (i : ℕ) (room : List ℕ) (at : ℕ) (row room' : List ℕ) → PutTo p s i room at
-    → i < length s → at ≤ 512 → IsEntry p (get_or s i 0) row → length room' ≡ 512
-    → take (at + 4) room' ≡ take at room ++ row → PutTo p s (i + 1) room' (at + slice_index row 3)
-put_more p s i room at row room' m l within r n h =
+pub put_more : (p : ℕ → Bool) (s : List ℕ) (i : ℕ) (room : List ℕ) (at : ℕ) (row new : List ℕ) → PutTo p s i room at
+    → i < length s → at ≤ 512 → IsEntry p (get_or s i 0) row → length new ≡ length (mid_of at (at + 4 - at) room)
+    → new ≡ row → PutTo p s (i + 1) (put_mid at (at + 4 - at) room new) (at + slice_index row 3)
+put_more p s i room at row new m l within r n e =
     let width = slice_index row 3 in
+    let room' = put_mid at (at + 4 - at) room new in
     let short : width ≤ 3 = grind arith in
     let one : encoded p (get_or s i 0 ∷ []) ≡ byte_encoding p (get_or s i 0) =
     grind (arith, written_first, encoded_empty, append-nil) in
     let len = length-take-le at room (omega (arith, m.long)) in
     let more = take_more s i 0 l in
     let all = encoded-append p (take i s) (get_or s i 0 ∷ []) in
+    let put = take-put_mid at (at + 4 - at) room new (at + 4) (omega (arith, ap length e, r.four))
+    (omega (arith, m.long)) in
     let front = take-take (at + width) (at + 4) room' (omega arith) in
     let seam = take-append-add (take at room) row width in
-    record { few = omega (arith, m.few); long = n; wrote = cc }
+    record { few = omega (arith, m.few); long = same_len_mid at (at + 4 - at) room new n ∙ m.long; wrote = cc }
 
 -- a text whose bytes are all below 128 is ASCII
 pub ascii_all : (s : List ℕ) → list_all (λ c. nat_lt c 128) s ≡ true → IsAscii s
@@ -337,9 +317,7 @@ ascii_all (c ∷ s) h = grind (arith, and_parts, ltb-true, ascii_all s)
 
 -- with each of the sets, the encoding of a byte is ASCII
 written_ascii : (set : EncodeSet) (b : ℕ) → b < 256 → IsAscii (byte_encoding (in_set set) b)
-written_ascii Path b l = grind arith
-written_ascii Query b l = grind arith
-written_ascii Fragment b l = grind arith
+written_ascii set b l = grind arith
 
 -- with each of the sets, the encoding of a text of bytes is ASCII
 encoded_ascii : (set : EncodeSet) (s : List ℕ) → ((i : ℕ) → get_or s i 0 < 256) → IsAscii (encoded (in_set set) s)

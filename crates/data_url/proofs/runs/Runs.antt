@@ -1,8 +1,8 @@
 -- Runs of a closure, one after another.
 use Rattle.std.proofs.Common.{List, [], ◌∷◌, ◌++◌, Option, None, Some, is_some, Result, Ok, Err, refl, ap, sym}
 use Rattle.std.proofs.Common.{◌∙◌, append_assoc, true, inl, inr, ◌⊎◌, arith, append-nil, IsErr, MatchOption, ◌≡◌, ℕ}
-use Rattle.std.{proofs.lemmas.Bool.{false≢true, true≢false}, specs.Option.{option_or}, specs.Result.{result_err}}
 use Rattle.std.proofs.Common.{◌+◌, ◌≤◌, length, length-append, min}
+use Rattle.std.{proofs.lemmas.Bool.{false≢true, true≢false}, specs.Option.{option_or}, specs.Result.{result_err}}
 use Rattle.data_url.specs.Run.{Call, IsPrefix, IsRun, joined_pieces, refusal}
 use Rattle.data_url.proofs.forgiving_base64.Padding.{some_not_none}
 
@@ -22,8 +22,7 @@ module _ {F E : Type 0} (step : F → List ℕ → Result (Unit {0}) E → F →
       → IsRun step f (xs ++ ys) h
   run-append [] ys f g h x n y = rw x y
   run-append (c ∷ cs) ys f g h x n y =
-      let more = run-append cs ys c.after g h x.2 (later_none c.answer (refusal cs) n) y in
-      (x.0, λ e. absurd (ok_is_no_error c.answer (refusal cs) n e), more)
+      grind (arith, run-append cs ys c.after g h x.2 (later_none c.answer (refusal cs) n) y, later_none, ok_is_no_error)
 
 -- if xs ends without an error, the error that ends xs ++ ys is the one that ends ys
 pub refusal-append : {F E : Type 0} (xs ys : List (Call F E)) → refusal xs ≡ None → refusal (xs ++ ys) ≡ refusal ys

@@ -1,21 +1,8 @@
 -- The scheme, and the first comma of a text. For `after_scheme` and `split_at_comma`.
-use Rattle.std.proofs.Common.{None, Some, position, ap₂, ◌⊎◌, eqb-true, append-nil, not, [], get_or-take, length-take}
-use Rattle.std.proofs.Common.{codes, refl, sym, ap, ◌∙◌, ⊎_elim, arith, ◌-◌, Option, ◌≡◌, ◌≢◌, ℕ, ◌+◌, ◌<◌, Bool, true}
-use Rattle.std.proofs.Common.{false, List, ◌∷◌, ◌++◌, length, get_or, take, drop}
-use Rattle.std.proofs.Common.{get_or-drop, length-drop, take-append-drop, take_all, map, nat_eq, subst, length-append}
-use Rattle.std.proofs.lemmas.Bool.{cases_lt, cond-true, lt-ltb, or_cases, or_parts}
-use Rattle.std.proofs.lemmas.List.Sums.{prefix_len_passes, prefix_len-le-length, prefix_len_stops}
-use Rattle.std.proofs.lemmas.List.{get_or_at, take_more, length-map, map-append, take-append-le, take-map, drop_more}
-use Rattle.std.{proofs.lemmas.List.{take_rest}, specs.Char.{to_ascii_lowercase}, specs.Str.{IsCharBoundary, IsUtf8}}
-use Rattle.std.{proofs.lemmas.Slice.Eq.{bytes_eq-Decides, starts_is}, specs.List.{starts_with, prefix_len}}
-use Rattle.std.proofs.lemmas.Str.{IsCharBoundary-after_ascii, IsCharBoundary-from_take, IsUtf8-from_ascii}
-use Rattle.data_url.specs.Mime.{Every}
-use Rattle.data_url.specs.Steps.Split.{HasNoScheme, IsSchemeAndRest, IsHeaderAndTail, ends_header, is_plain_path}
-use Rattle.data_url.specs.{Steps.Header.{header_text}, Url.{without_tabs_and_newlines, is_tab_or_newline, after, front}}
-use Rattle.data_url.proofs.{percent.Encoding.{kept_whole, ascii_all, Plain}, texts.Bytes.{before_at, after_none}}
-use Rattle.data_url.proofs.texts.Bytes.{after_nil, after_other, after-dropped_none, without_tabs_and_newlines-append}
-use Rattle.data_url.proofs.texts.Bytes.{dropped_around, dropped_keeps, dropped_nil, dropped_passes, before_all}
-use Rattle.data_url.proofs.texts.CodePoints.{front_further, front_passes}
+use Rattle.std.proofs.{lemmas.Grind.{common_steps}, Common.{None, ◌⊎◌, eqb-true, append-nil, [], get_or-take, length-take, codes, refl, ap, ◌∙◌, arith, ◌-◌, ◌≡◌, ◌≢◌, ℕ, ◌+◌, ◌<◌, true, false, List, ◌∷◌, ◌++◌, length, get_or, take, drop, take-append-drop, take_all, map, nat_eq, length-append}, lemmas.Bool.{or_parts}, lemmas.List.Sums.{prefix_len_passes, prefix_len-le-length, prefix_len_stops}, lemmas.List.{get_or_at, take_more, length-map, map-append, take-append-le, take-map, drop_more, take_rest}, lemmas.Slice.Eq.{bytes_eq-Decides, starts_is}, lemmas.Str.{IsCharBoundary-after_ascii, IsCharBoundary-from_take, IsUtf8-from_ascii}}
+use Rattle.std.specs.{Char.{to_ascii_lowercase}, Str.{IsCharBoundary, IsUtf8}, List.{starts_with, prefix_len}}
+use Rattle.data_url.specs.{Mime.{Every}, Steps.Split.{HasNoScheme, IsSchemeAndRest, IsHeaderAndTail, in_header, is_plain_path}, Steps.Header.{header_text}, Url.{without_tabs_and_newlines, is_tab_or_newline, after, front}}
+use Rattle.data_url.proofs.{percent.Encoding.{kept_whole, ascii_all, Plain}, texts.Bytes.{before_at, after_none, after_nil, after_other, after-dropped_none, without_tabs_and_newlines-append, dropped_around, dropped_keeps, dropped_nil, dropped_passes, before_all}, texts.CodePoints.{front_further, front_passes}}
 
 -- the scheme, in lower case
 abbrev scheme : List ℕ
@@ -42,8 +29,7 @@ one_more : (text : List ℕ) (place n : ℕ) → place < length text → Spells 
     → to_ascii_lowercase (get_or text place 0) ≡ get_or scheme n 0
     → map to_ascii_lowercase (without_tabs_and_newlines (take (place + 1) text)) ≡ take (n + 1) scheme
 one_more text place n l h e same =
-    let more = take_more text place 0 l in
-    grind (arith, without_tabs_and_newlines-append, dropped_keeps, dropped_nil, map-append, take_more scheme n 0)
+    grind (arith, common_steps, without_tabs_and_newlines-append, dropped_keeps, dropped_nil)
 
 -- with that byte, one byte more of the scheme is spelled
 pub spells_more : (text : List ℕ) (place n : ℕ) → place < length text → Spells (take place text) n
@@ -57,11 +43,8 @@ pub spells_all : (text : List ℕ) (place n : ℕ) → place < length text → S
     → is_tab_or_newline (get_or text place 0) ≡ false
     → to_ascii_lowercase (get_or text place 0) ≡ get_or scheme n 0 → n + 1 ≡ 5
     → IsSchemeAndRest text (drop (place + 1) text)
-spells_all text place n l h e same whole = record {
-  scheme = take (place + 1) text;
-  joined = sym (take-append-drop (place + 1) text);
-  spelled = one_more text place n l h e same ∙ ap (λ k. take k scheme) whole;
-}
+spells_all text place n l h e same whole =
+    grind (arith, take-append-drop (place + 1) text, one_more text place n l h e same)
 
 -- a text that spells n bytes of the scheme has n bytes without its tabs and newlines
 spelled_length : (s : List ℕ) (n : ℕ) → Spells s n → length (without_tabs_and_newlines s) ≡ n
@@ -69,9 +52,7 @@ spelled_length s n h = grind (arith, length-map, length-take)
 
 -- a text that spells only a part of the scheme does not begin with the scheme
 pub ends_early : (s : List ℕ) (n : ℕ) → Spells s n → HasNoScheme s
-ends_early s n h =
-    let low = map to_ascii_lowercase (take 5 (without_tabs_and_newlines s)) in
-    grind (arith, bytes_eq-Decides low scheme, length-map, length-take, spelled_length s n h)
+ends_early s n h = grind (arith, bytes_eq-Decides, length-map, length-take, spelled_length s n h)
 
 -- if a byte follows that is neither a tab or newline nor the next byte of the scheme, the text does not begin with the
 -- scheme
@@ -114,15 +95,6 @@ pub record IsHeaderEnd (s : List ℕ) (n : ℕ) : Type 0 where
   pub no_comma : after 44 (take n s) ≡ None
   pub no_hash : after 35 (take n s) ≡ None
 
--- neither ',' nor '#'
-abbrev in_header : ℕ → Bool
-in_header b = not (ends_header b)
-
--- the first ',' or '#' of a text comes after the plain bytes at its front
-further_on : (s items : List ℕ) (n : ℕ) → items ≡ s → n ≡ prefix_len is_plain_path items
-    → prefix_len in_header s ≡ n + prefix_len in_header (drop n s)
-further_on s items n e f = grind (arith, front_further, prefix_len_passes, prefix_len-le-length)
-
 -- a text of bytes that are neither ',' nor '#' has neither
 no_end : (s : List ℕ) → Every in_header s → (after 44 s ≡ None) × (after 35 s ≡ None)
 no_end [] h = (after_nil 44, after_nil 35)
@@ -138,23 +110,24 @@ pub at_hash : (s : List ℕ) (n : ℕ) → IsHeaderEnd s n → get_or s n 0 ≡ 
 unfolding front
 at_hash s n f h = cc (cut_at s n f.within, before_at 35 (take n s) (drop (n + 1) s) f.no_hash)
 
--- if the first ',' or '#' after the n plain bytes at the front is at index k of the bytes after them, the first one of
--- the text is at n + k
-pub header_end_at : (s items : List ℕ) (n k : ℕ) (r : Option ℕ) → items ≡ s → n ≡ prefix_len is_plain_path items
-    → r ≡ position ends_header (take (length items - n) (drop n items)) → r ≡ Some k → IsHeaderEnd s (n + k)
-header_end_at s items n k r e f q g =
-    let more = further_on s items n e f in
-    let lacks = no_end (take (prefix_len in_header s) s) (front_passes in_header s) in
-    grind (arith, take_rest, length-drop, prefix_len_stops in_header s 0, eqb-true)
+module _ (s items : List ℕ) (n k : ℕ) (e : items ≡ s) (f : n ≡ prefix_len is_plain_path items)
+    (g : k ≡ prefix_len in_header (take (length items - n) (drop n items))) where
+  -- the first ',' or '#' of the text, if there is one, is k bytes after the n plain bytes at the front
+  end_at : n + k ≡ prefix_len in_header s
+  end_at = grind (arith, take_rest, front_further, prefix_len_passes, prefix_len-le-length)
 
--- if there is no ',' or '#' after the plain bytes at the front, there is no ',' before the first '#' of the text
-pub no_header_end : (s items : List ℕ) (n : ℕ) (r : Option ℕ) → items ≡ s → n ≡ prefix_len is_plain_path items
-    → r ≡ position ends_header (take (length items - n) (drop n items)) → r ≡ None → after 44 (front s) ≡ None
-unfolding front
-no_header_end s items n r e f q g =
-    let more = further_on s items n e f in
-    let lacks = no_end (take (prefix_len in_header s) s) (front_passes in_header s) in
-    grind (arith, take_rest, length-drop, take_all, before_all)
+  -- if the text has so many bytes, the first ',' or '#' is at n + k
+  pub header_end_at : n + k ≢ length s → IsHeaderEnd s (n + k)
+  header_end_at ne =
+      let lacks = no_end (take (prefix_len in_header s) s) (front_passes in_header s) in
+      grind (arith, end_at, prefix_len-le-length in_header s, prefix_len_stops in_header s 0, eqb-true)
+
+  -- otherwise, there is no ',' before the first '#' of the text
+  pub no_header_end : n + k ≡ length s → after 44 (front s) ≡ None
+  unfolding front
+  no_header_end ends =
+      let lacks = no_end (take (prefix_len in_header s) s) (front_passes in_header s) in
+      grind (arith, end_at, take_all, before_all)
 
 -- if the ',' follows directly after the plain bytes at the front, the header is serialised as it is
 pub plain_before : (s items header : List ℕ) (n k : ℕ) → items ≡ s → n ≡ prefix_len is_plain_path items

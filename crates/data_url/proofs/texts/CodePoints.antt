@@ -1,15 +1,7 @@
 -- Texts of code points, cut at the first code point that does not pass, and where their bytes can be cut.
-use Rattle.std.{proofs.Common.{append-nil, ◌==◌, take-append-drop, length-append}, specs.List.{prefix_len, suffix_len}}
-use Rattle.std.proofs.Common.{drop, refl, one-add, subst, sym, ap, ◌∙◌, arith, zero, suc, get_or, encode_utf8_all}
-use Rattle.std.proofs.Common.{◌≡◌, ℕ, ◌≤◌, ◌<◌, ◌+◌, ◌-◌, Bool, true, false, cond, List, [], ◌∷◌, ◌++◌, length, take}
-use Rattle.std.{proofs.Math.Seq.{take-append_seam, drop-append_seam}, proofs.lemmas.List.Sums.{suffix_len-le-length}}
-use Rattle.std.{proofs.lemmas.Str.Ascii.{IsAscii-nil}, specs.Str.{chars, IsCharBoundary, IsUtf8, all_scalars, IsAscii}}
-use Rattle.std.proofs.lemmas.Str.{IsUtf8-take, chars-append}
-use Rattle.std.proofs.lemmas.Str.{chars-encodes, encodes-append, encodes-chars, IsCharBoundary-at_seam, scalars-chars}
-use Rattle.std.proofs.lemmas.Str.{encode_ascii, chars-nil, length-le-encodes, chars-IsAscii, IsUtf8-from_ascii}
-use Rattle.data_url.specs.{Mime.{DoesNotBegin, Every}, Steps.Parsing.{IsTrimmedEnd, front_of}}
-use Rattle.data_url.specs.Steps.Parsing.{DoesNotEnd}
-use Rattle.data_url.specs.Url.{is_c0_control_or_space, without_end, without_start}
+use Rattle.std.proofs.{lemmas.Grind.{common_steps}, Common.{append-nil, ◌==◌, take-append-drop, length-append, drop, refl, one-add, subst, sym, ap, ◌∙◌, arith, zero, suc, get_or, encode_utf8_all, ◌≡◌, ℕ, ◌≤◌, ◌<◌, ◌+◌, ◌-◌, Bool, true, false, cond, List, [], ◌∷◌, ◌++◌, length, take}, Math.Seq.{take-append_seam, drop-append_seam}, lemmas.List.Sums.{suffix_len-le-length}, lemmas.Str.Ascii.{IsAscii-nil}, lemmas.Str.{IsUtf8-take, chars-append, chars-encodes, encodes-append, encodes-chars, IsCharBoundary-at_seam, encode_ascii, chars-nil, length-le-encodes, chars-IsAscii, IsUtf8-from_ascii}}
+use Rattle.std.specs.{List.{prefix_len, suffix_len}, Str.{chars, IsCharBoundary, IsUtf8, all_scalars, IsAscii}}
+use Rattle.data_url.specs.{Mime.{DoesNotBegin, Every}, Steps.Parsing.{IsTrimmedEnd, front_of, DoesNotEnd}, Url.{is_c0_control_or_space, without_end, without_start}}
 use lib.Utf8.{encode}
 use mathlib.Core.List.{reverse_aux}
 
@@ -67,8 +59,7 @@ end_len p (c ∷ t) back h e = end_onto p c t back [] h e
 
 -- if t is s without its longest suffix that passes, t is `without_end p s`
 pub trimmed_end_is : (p : ℕ → Bool) (s t : List ℕ) → IsTrimmedEnd p s t → t ≡ without_end p s
-trimmed_end_is p s t h =
-    grind (arith, length-append t h.back, end_len p t h.back h.at_back h.ends, take-append_seam t h.back)
+trimmed_end_is p s t h = grind (arith, common_steps, end_len)
 
 -- a text that does not end with a code point that passes has no suffix that passes
 pub end_stays : (p : ℕ → Bool) (t : List ℕ) → DoesNotEnd p t → without_end p t ≡ t
@@ -132,27 +123,16 @@ pub record IsCutInto (bs : List ℕ) (n : ℕ) (xs ys : List ℕ) : Type 0 where
 pub cut_into : (bs xs ys : List ℕ) (n : ℕ) → IsUtf8 bs → chars bs ≡ xs ++ ys → n ≡ length (encode_utf8_all xs)
     → IsCutInto bs n xs ys
 cut_into bs xs ys n u e l =
-    let k = scalars_parts xs ys (ap all_scalars (sym e) ∙ scalars-chars bs u) in
     let a = encode_utf8_all xs in
     let b = encode_utf8_all ys in
     let whole : bs ≡ a ++ b = cc (encodes-chars bs u, encodes-append xs ys) in
-    rw (l, whole) (record {
-      boundary = IsCharBoundary-at_seam (a ++ b) a b refl (ys, (k.1, refl));
-      front = ap chars (take-append_seam a b) ∙ chars-encodes xs k.0;
-      after = ap chars (drop-append_seam a b) ∙ chars-encodes ys k.1;
-    })
+    grind (arith, scalars_parts, IsCharBoundary-at_seam, take-append_seam, chars-encodes, drop-append_seam)
 
 -- a UTF-8 text can be cut after its longest prefix that passes
 pub cut_front : (p : ℕ → Bool) → IsSteady p → (bs : List ℕ) → IsUtf8 bs
     → IsCutInto bs (prefix_len p bs) (front_of p (chars bs)) (without_start p (chars bs))
 cut_front p s bs u = cut_into bs _ _ (prefix_len p bs) u (sym (take-append-drop (prefix_len p (chars bs)) (chars bs)))
     (ap (prefix_len p) (sym (encodes-chars bs u)) ∙ front_encodes p s (chars bs))
-
--- the parts of a UTF-8 text that is cut there, as code points
-pub cut_by : {p : ℕ → Bool} {bs bytes front after : List ℕ} {n : ℕ} → IsSteady p → IsUtf8 bs → n ≡ prefix_len p bytes
-    → bytes ≡ bs → front ≡ take n bs → after ≡ drop n bs
-    → (chars front ≡ front_of p (chars bs)) × (chars after ≡ without_start p (chars bs))
-cut_by {p = p} {bs = bs} s u e b f g = grind (arith, cut_front)
 
 -- a text of no bytes has no code points
 pub no_chars : (bs : List ℕ) → length bs ≡ 0 → chars bs ≡ []

@@ -1,9 +1,11 @@
 -- Classes of bytes, which are looked up in tables.
 use Rattle.std.specs.Prelude.{◌/◌, ◌%◌, ◌<◌, ◌≤◌, ◌==◌, ◌≡◌, Bool, List, bit_and, false, length, not, slice_index, ℕ}
 use Rattle.data_url.specs.CodePoints.{is_http_whitespace, is_token}
-use Rattle.data_url.specs.Steps.Split.{is_plain_path}
-use Rattle.data_url.specs.Steps.Parsing.{is_escaped, is_quotable_byte, is_unquoted_byte}
-use Rattle.data_url.specs.declared.classes.Class.TheVariants.{PlainPath, Quotable, Token, Unescaped, Unquoted, Whitespace}
+use Rattle.data_url.specs.Url.{is_c0_control_or_space, is_tab_or_newline}
+use Rattle.data_url.specs.Steps.Header.{is_no_question_mark}
+use Rattle.data_url.specs.Steps.Split.{in_header, is_plain_path}
+use Rattle.data_url.specs.Steps.Parsing.{in_name, in_value, is_escaped, is_quotable_byte, is_unquoted_byte}
+use Rattle.data_url.specs.declared.classes.Class.TheVariants.{Control, Header, Name, Path, PlainPath, Quotable, TabOrNewline, Token, Unescaped, Unquoted, Value, Whitespace}
 use Rattle.data_url.specs.declared.classes.Class.{Class}
 use Rattle.data_url.specs.declared.classes.lanes.TheConstants.{COLUMNS}
 
@@ -15,6 +17,12 @@ in_class Unquoted = is_unquoted_byte
 in_class PlainPath = is_plain_path
 in_class Whitespace = is_http_whitespace
 in_class Unescaped = λ b. not (is_escaped b)
+in_class Control = is_c0_control_or_space
+in_class TabOrNewline = is_tab_or_newline
+in_class Path = is_no_question_mark
+in_class Header = in_header
+in_class Name = in_name
+in_class Value = in_value
 
 -- the first n entries of a table are its first sixteen, again and again
 pub record Repeats (table : List ℕ) (n : ℕ) : Type 0 where

@@ -1,6 +1,7 @@
 -- What the private contracts of the MIME parser see of the parameters that it has kept so far.
 use Rattle.std.specs.BTreeSet.{BTreeSet, contains_text}
-use Rattle.std.specs.Prelude.{◌%◌, ◌*◌, ◌+◌, ◌-◌, ◌≡◌, List, String, bit_or, drop, length}
+use Rattle.std.specs.Prelude.{[], ◌%◌, ◌*◌, ◌+◌, ◌-◌, ◌<◌, ◌≤◌, ◌≡◌, List, String, bit_or, drop, false, get_or, length}
+use Rattle.std.specs.Str.{bytes_eq}
 use Rattle.std.specs.Prelude.{map, slice_index, take, ℕ}
 use Rattle.data_url.specs.Mime.{Pair, has_name}
 use Rattle.data_url.specs.MimeType.{pair_of}
@@ -15,6 +16,11 @@ pairs_of kept = map (λ p. pair_of p) kept.pairs.items
 -- the first pairs, whose names are searched by their fingerprints
 abbrev pub first_of : List Pair → List Pair
 first_of pairs = take LOOKED_THROUGH pairs
+
+-- none of the pairs from the place `from` up to the place `to` has the name
+abbrev pub AreUnnamed : List ℕ → List Pair → ℕ → ℕ → Type 0
+AreUnnamed name pairs from to = (k : ℕ) → from ≤ k → k < to → k < length pairs
+    → bytes_eq (get_or pairs k ([], [])).0 name ≡ false
 
 -- the set holds exactly the names of the pairs after the first ones
 abbrev pub HasLaterNames : {A : Type 0} → BTreeSet (String A) → List Pair → Type 0

@@ -18,9 +18,9 @@ HasNoScheme text =
     (codes "data:")
     ≡ false
 
--- ',' or '#'
-abbrev pub ends_header : ℕ → Bool
-ends_header b = (b == comma) || (b == number_sign)
+-- neither ',' nor '#'
+abbrev pub in_header : ℕ → Bool
+in_header b = not ((b == comma) || (b == number_sign))
 
 -- a byte of a path that is serialised as it is, and is none of '#', ',' and '?'
 abbrev pub is_plain_path : ℕ → Bool

@@ -1,32 +1,20 @@
-//! Where texts are cut, and texts without HTTP whitespace at an end.
+//! Where texts are cut: at HTTP whitespace, at marks and after token code points (MIME Sniffing Standard, section 3).
 #![tactic(auto, using(crate::proofs::mime::Parsing::cuts))]
 
-ghost use Rattle.std.specs.Prelude.{◌≡◌, ◌≤◌, None, Some, MatchOption, length, take};
-ghost use Rattle.std.specs.List.{prefix_len, suffix_len};
+ghost use Rattle.std.specs.Prelude.{◌≡◌, [], None, Some, MatchOption, length, take};
 ghost use Rattle.std.specs.Str.{chars};
-ghost use Rattle.data_url.specs.CodePoints.{is_http_whitespace};
+ghost use Rattle.data_url.specs.CodePoints.{is_http_whitespace, is_token};
+ghost use Rattle.data_url.specs.Mime.{is_token_text};
 ghost use Rattle.data_url.specs.Url.{without_end, without_start};
-ghost use Rattle.data_url.specs.Steps.Parsing.{IsTrimmedEnd, after_mark, in_name, in_value};
+ghost use Rattle.data_url.specs.Steps.Parsing.{IsTokens, IsTrimmedEnd, after_mark, front_of, in_name, in_value};
 
-use crate::classes::{Class, has, span};
-
-/// How many bytes at the end are HTTP whitespace.
-fn trailing_len(bytes: &[u8]) -> usize
-    ensures { result ≡ suffix_len is_http_whitespace bytes.now }
-{
-    bytes
-        .iter()
-        .rev()
-        .take_while(|byte| has(Class::Whitespace, **byte))
-        .count()
-}
+use crate::classes::{Class, end_span, span};
 
 /// The text without HTTP whitespace at its start.
 pub(super) fn without_leading_whitespace(text: &str) -> &str
     ensures { chars result.now ≡ without_start is_http_whitespace (chars text.now) }
 {
-    let len = span(Class::Whitespace, text.as_bytes());
-    &text[len..]
+    &text[span(Class::Whitespace, text.as_bytes())..]
 }
 
 /// The text without HTTP whitespace at its end.
@@ -35,8 +23,7 @@ pub(super) fn without_trailing_whitespace(text: &str) -> &str
     ensures without { chars result.now ≡ without_end is_http_whitespace (chars text.now) }
     ensures bytes { result.now ≡ take (length result.now) text.now }
 {
-    let len = trailing_len(text.as_bytes());
-    &text[..text.len() - len]
+    &text[..text.len() - end_span(Class::Whitespace, text.as_bytes())]
 }
 
 /// The text after a character, if the text begins with it.
@@ -48,27 +35,43 @@ pub(super) fn after_mark(text: &str, mark: char) -> Option<&str>
     text.strip_prefix(mark)
 }
 
-/// Returns how many bytes come before the first `;` or `=`.
-pub(super) fn name_len(bytes: &[u8]) -> usize
-    ensures { result ≡ prefix_len in_name bytes.now }
-{
-    bytes
-        .iter()
-        .take_while(|byte| **byte != b';' && **byte != b'=')
-        .count()
-}
-
-/// Returns how many bytes come before the first `;`.
-pub(super) fn parameter_len(bytes: &[u8]) -> usize
-    ensures prefix { result ≡ prefix_len in_value bytes.now }
-    ensures within { result ≤ length bytes.now }
-{
-    bytes.iter().take_while(|byte| **byte != b';').count()
-}
-
 /// The text from its first `;` on.
 pub(super) fn from_semicolon(text: &str) -> &str
     ensures { chars result.now ≡ without_start in_value (chars text.now) }
 {
-    &text[parameter_len(text.as_bytes())..]
+    &text[span(Class::Value, text.as_bytes())..]
+}
+
+/// Whether a text is not empty and has only token code points.
+pub(super) fn is_token_text(text: &str) -> bool
+    ensures { result ≡ is_token_text (chars text.now) }
+{
+    !text.is_empty() && span(Class::Token, text.as_bytes()) == text.len()
+}
+
+/// Splits a text after its longest prefix of token code points. Returns None if that is empty.
+pub(super) fn split_tokens(text: &str) -> Option<(&str, &str)>
+    ensures { MatchOption result (front_of is_token (chars text.now) ≡ [])
+        (λ parts. IsTokens (chars text.now) (chars parts.0.now) (chars parts.1.now)) }
+{
+    let len = span(Class::Token, text.as_bytes());
+    if len == 0 {
+        return None;
+    }
+    Some(text.split_at(len))
+}
+
+/// Splits a text before its first `;` or `=`. The flag is whether the first part is not empty and has only token code
+/// points.
+#[inline(always)]
+#[tactic(auto, using(crate::proofs::mime::TokenTexts::names))]
+pub(super) fn split_name(text: &str) -> (&str, bool, &str)
+    ensures name { chars result.0.now ≡ front_of in_name (chars text.now) }
+    ensures token { result.1 ≡ is_token_text (chars result.0.now) }
+    ensures rest { chars result.2.now ≡ without_start in_name (chars text.now) }
+{
+    let bytes = text.as_bytes();
+    let tokens = span(Class::Token, bytes);
+    let (name, rest) = text.split_at(tokens + span(Class::Name, &bytes[tokens..]));
+    (name, tokens != 0 && tokens == name.len(), rest)
 }

@@ -1,13 +1,13 @@
 //! The parameters that are kept while a MIME type is read: of each name the first.
 
-ghost use Rattle.std.specs.Prelude.{false, ◌≡◌, ◌==◌, ◌<◌, ◌≤◌, ◌+◌, ◌++◌, ◌∷◌, [], IsTrue, OnOk, drop, length, map, take};
+ghost use Rattle.std.specs.Prelude.{false, ◌≡◌, ◌==◌, ◌<◌, ◌≤◌, ◌+◌, ◌++◌, ◌∷◌, [], IsTrue, OnOk, drop, length, map, take, true};
 ghost use Rattle.std.specs.Char.{to_ascii_lowercase};
 ghost use Rattle.std.specs.Simd.Lanes.{mask_l};
 ghost use Rattle.std.specs.Str.{chars};
 ghost use Rattle.data_url.specs.Mime.{has_name, is_lowercase_name, is_token_text};
 ghost use Rattle.data_url.specs.MimeType.{code_points};
 ghost use Rattle.data_url.specs.Steps.Parsing.{unless_named};
-ghost use Rattle.data_url.specs.Steps.Kept.{IsIndexed, fingerprint_of, first_of, pairs_of};
+ghost use Rattle.data_url.specs.Steps.Kept.{AreUnnamed, IsIndexed, fingerprint_of, first_of, pairs_of};
 
 use crate::classes::lanes::{ROW, row};
 use std::alloc::AllocError;
@@ -45,7 +45,8 @@ impl KeptParameters {
         let fingerprint = fingerprint(name);
         let mut at = 0;
         while at < len {
-            let bits = alike(fingerprint, row(&self.fingerprints, at));
+            let row = row(&self.fingerprints, at);
+            let bits = row.simd_eq(u8x16::splat(fingerprint)).to_bitmask();
             if self.is_in_row(name, at, bits) {
                 return true;
             }
@@ -54,8 +55,8 @@ impl KeptParameters {
         false
     }
 
-    /// Whether one of the first pairs whose fingerprints are in the row at a place has the name, in any ASCII case. A bit is set
-    /// for each fingerprint of the row that the name has, too.
+    /// Whether one of the first pairs has the name, in any ASCII case, of those whose fingerprints are in the row at a place. A
+    /// bit is set for each fingerprint of the row that the name has, too.
     #[inline(always)]
     fn is_in_row(&self, name: &str, at: usize, bits: u64) -> bool
         requires indexed { IsIndexed self.now }
@@ -63,8 +64,10 @@ impl KeptParameters {
         requires within { at + 16 ≤ length self.now.fingerprints }
         requires bits { bits ≡ mask_l (map (λ b. b == fingerprint_of (map to_ascii_lowercase name.now))
             (take 16 (drop at self.now.fingerprints))) }
-        ensures { result ≡ has_name (map to_ascii_lowercase (chars name.now))
-            (take 16 (drop at (first_of (pairs_of self.now)))) }
+        ensures found { result ≡ true → has_name (map to_ascii_lowercase (chars name.now))
+            (first_of (pairs_of self.now)) ≡ true }
+        ensures none { result ≡ false → AreUnnamed (map to_ascii_lowercase (chars name.now))
+            (first_of (pairs_of self.now)) at (at + 16) }
     {
         let end = LOOKED_THROUGH.min(self.pairs.len());
         let mut left = bits;
@@ -94,10 +97,10 @@ impl KeptParameters {
         let place = self.pairs.len();
         if place < LOOKED_THROUGH {
             self.fingerprints[place] = fingerprint(name.as_str());
-        } else if !self.later_names.insert(name.clone()?)? {
-            return Ok(());
+            self.pairs.push((name, value))?;
+        } else if self.later_names.insert(name.clone()?)? {
+            self.pairs.push((name, value))?;
         }
-        self.pairs.push((name, value))?;
         Ok(())
     }
 }
@@ -116,12 +119,4 @@ fn fingerprint(name: &str) -> u8
     let hundreds = u32::from(bytes[last.saturating_sub(2)] | CASE);
     let sum = ones + 10 * tens + 100 * hundreds;
     (sum % 256) as u8
-}
-
-/// Returns a bit for each fingerprint of a row, which is set where it is this one.
-#[inline(always)]
-fn alike(fingerprint: u8, row: u8x16) -> u64
-    ensures { result ≡ mask_l (map (λ b. b == fingerprint) row) }
-{
-    row.simd_eq(u8x16::splat(fingerprint)).to_bitmask()
 }

@@ -10,13 +10,12 @@ ghost use Rattle.data_url.specs.MimeType.{pair_of, record_of};
 
 use super::Mime;
 use super::cuts::{
-    after_mark, from_semicolon, parameter_len, without_leading_whitespace,
+    after_mark, from_semicolon, split_name, split_tokens, without_leading_whitespace,
     without_trailing_whitespace,
 };
 use super::kept::{FINGERPRINTS_LEN, KeptParameters};
-use super::tokens::{split_name, split_tokens};
 use super::values::{Value, lowercased};
-use crate::classes::{Class, long_span, span_if_any};
+use crate::classes::{Class, long_span, span, span_if_any};
 use std::alloc::{AllocError, Global};
 use std::collections::BTreeSet;
 
@@ -99,16 +98,10 @@ fn read_parameter(text: &str) -> Parameter<'_>
     ensures rest { chars result.rest.now ≡ (reading_in (chars text.now)).rest }
 {
     let (name, is_token, rest) = split_name(without_leading_whitespace(text));
-    let Some(given) = after_mark(rest, '=') else {
-        let value = Value::Missing;
-        return Parameter {
-            name,
-            is_token,
-            value,
-            rest,
-        };
+    let (value, rest) = match after_mark(rest, '=') {
+        Some(given) => read_value(given),
+        None => (Value::Missing, rest),
     };
-    let (value, rest) = read_value(given);
     Parameter {
         name,
         is_token,
@@ -137,7 +130,7 @@ fn read_plain(text: &str) -> (Value<'_>, &str)
 {
     let bytes = text.as_bytes();
     let quotable = long_span(Class::Unquoted, bytes);
-    let (value, rest) = text.split_at(quotable + parameter_len(&bytes[quotable..]));
+    let (value, rest) = text.split_at(quotable + span(Class::Value, &bytes[quotable..]));
     let value = without_trailing_whitespace(value);
     if value.is_empty() || value.len() > quotable {
         return (Value::Missing, rest);
@@ -159,23 +152,10 @@ fn split_quote(text: &str) -> (&str, &str)
         if bytes[place] == b'"' {
             return (&text[..place], &text[place + 1..]);
         }
-        place = next_quoting(bytes, place);
+        let from = bytes.len().min(place + 2);
+        place = from + span_if_any(Class::Unescaped, &bytes[from..]);
     }
     (text, "")
-}
-
-/// Returns the place of the first `"` or `\` that comes after the `\` at a place and the byte that this one escapes.
-/// Returns the length if there is none.
-#[inline(always)]
-fn next_quoting(bytes: &[u8], place: usize) -> usize
-    requires quoting { Quoting bytes.now place }
-    requires within { place < length bytes.now }
-    requires other { slice_index bytes.now place ≢ 34 }
-    ensures on { place < result }
-    ensures quoting { Quoting bytes.now result }
-{
-    let from = bytes.len().min(place + 2);
-    from + span_if_any(Class::Unescaped, &bytes[from..])
 }
 
 /// The length of the shortest valid parameter, such as `;a=b`, in bytes; about half of what most take.

@@ -3,15 +3,15 @@
 ghost use Rattle.std.specs.Fmt.{WritesStyledOnOk};
 ghost use Rattle.std.specs.List.{flat_map};
 ghost use Rattle.std.specs.Str.{chars, encode_utf8_all};
-ghost use Rattle.data_url.specs.Mime.{escaped_code_point, printed_pair, printed_value};
+ghost use Rattle.data_url.specs.Mime.{escaped_code_point, printed_pair};
 ghost use Rattle.data_url.specs.Steps.Printing.{AddsOnOk, IsHeld};
 
+use super::cuts::is_token_text;
 use super::line::Line;
-use super::tokens::is_token_text;
 use crate::classes::{Class, long_span};
 use std::fmt;
 
-/// Adds `;`, a name, `=` and a value.
+/// Adds `;`, a name, `=` and a value: as it is if it is not empty and has only token code points, and otherwise in quotes.
 pub(super) fn push_parameter<W: fmt::Write>(
     line: &mut Line,
     f: &mut fmt::Formatter<W>,
@@ -26,16 +26,6 @@ pub(super) fn push_parameter<W: fmt::Write>(
     line.push(f, ";")?;
     line.push(f, name)?;
     line.push(f, "=")?;
-    push_value(line, f, value)
-}
-
-/// Adds a value: as it is if it is not empty and has only token code points, and otherwise in quotes.
-fn push_value<W: fmt::Write>(line: &mut Line, f: &mut fmt::Formatter<W>, value: &str) -> fmt::Result
-    requires { IsHeld line.old }
-    ensures added { AddsOnOk W.write_str_gives f.old line.old result
-        (encode_utf8_all (printed_value (chars value.now))) f.new line.new }
-    ensures held { IsHeld line.new }
-{
     if is_token_text(value) {
         return line.push(f, value);
     }
@@ -45,6 +35,7 @@ fn push_value<W: fmt::Write>(line: &mut Line, f: &mut fmt::Formatter<W>, value: 
 }
 
 /// Adds a text with a `\` before each `"` and each `\`.
+#[tactic(auto, using(crate::proofs::mime::RoundTrips::escaping))]
 fn push_escaped<W: fmt::Write>(
     line: &mut Line,
     f: &mut fmt::Formatter<W>,

@@ -75,20 +75,15 @@ const FRAGMENT: [u8; 1024] = *b"\
 /// The class of the bytes that are written as they are: for each low half of a byte, the bits of the columns in which
 /// it is not.
 #[inline(always)]
+#[rattlefmt::skip]
 pub(super) fn others(set: EncodeSet) -> [u8; 16]
     ensures { (b : ℕ) → b < 256 → is_marked result b ≡ false
         → byte_encoding (in_set set) b ≡ b ∷ [] }
 {
     match set {
-        EncodeSet::Path => [
-            129, 129, 129, 129, 129, 129, 129, 129, 129, 129, 129, 129, 129, 129, 129, 193,
-        ],
-        EncodeSet::Query => [
-            131, 129, 131, 131, 129, 129, 129, 129, 129, 129, 129, 129, 133, 129, 133, 193,
-        ],
-        EncodeSet::Fragment => [
-            163, 129, 131, 129, 129, 129, 129, 129, 129, 129, 129, 129, 133, 129, 133, 193,
-        ],
+        EncodeSet::Path => [129, 129, 129, 129, 129, 129, 129, 129, 129, 129, 129, 129, 129, 129, 129, 193],
+        EncodeSet::Query => [131, 129, 131, 131, 129, 129, 129, 129, 129, 129, 129, 129, 133, 129, 133, 193],
+        EncodeSet::Fragment => [163, 129, 131, 129, 129, 129, 129, 129, 129, 129, 129, 129, 133, 129, 133, 193],
     }
 }
 

@@ -1,6 +1,5 @@
-use Rattle.std.{proofs.Common.{◌≡◌, ◌<◌, ℕ, arith, false, not, refl, true}, proofs.lemmas.List.{take_rest}}
-use Rattle.data_url.specs.Steps.Classes.{in_class, is_marked}
-use Rattle.data_url.specs.{Steps.Split.{is_plain_path}, Steps.Parsing.{is_escaped, is_quotable_byte, is_unquoted_byte}}
+use Rattle.std.proofs.{Common.{◌≡◌, ◌<◌, ℕ, arith, false, not, refl, true}, lemmas.List.{take_rest}}
+use Rattle.data_url.specs.{Steps.Classes.{in_class, is_marked}, Steps.Split.{is_plain_path}, Steps.Parsing.{is_escaped, is_quotable_byte, is_unquoted_byte}}
 use Rattle.data_url.proofs.{classes.Rows.{all_marked, unmarked_passes}, texts.CodePoints.{front_further}}
 use Rattle.data_url.proofs.classes.long_span.Goals as goal
 

@@ -1,7 +1,6 @@
-use Rattle.std.{proofs.Common.{◌/◌, ◌^◌, bit_and, arith, get_or, refl}, proofs.lemmas.Simd.{zip2_splat}}
-use Rattle.std.proofs.lemmas.Nat.{and_le_r}
+use Rattle.std.proofs.{Common.{◌/◌, ◌^◌, bit_and, arith, get_or, refl}, lemmas.Simd.{zip2_splat}, lemmas.Nat.{and_le_r}}
 use Rattle.data_url.specs.declared.classes.lanes.TheConstants.{COLUMNS}
-use Rattle.data_url.proofs.forgiving_base64.{Vectors.{joined}, Lanes.{looked_up, places_ok, repeats}}
+use Rattle.data_url.proofs.{forgiving_base64.Vectors.{joined}, forgiving_base64.Lanes.{looked_up, places_ok, repeats}}
 use Rattle.data_url.proofs.classes.lanes.looked_up_in_block.Goals as goal
 
 pub swizzle-low : goal.swizzle-low

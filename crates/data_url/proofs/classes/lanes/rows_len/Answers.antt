@@ -1,6 +1,6 @@
 use Rattle.std.proofs.Common.{arith, ap}
-use lib.Count.{count_trailing_zeros}
 use Rattle.data_url.proofs.classes.Rows.{one_row_more, row_front}
+use lib.Count.{count_trailing_zeros}
 use Rattle.data_url.proofs.classes.lanes.rows_len.Goals as goal
 
 pub returns-then-not-is_unmarked : goal.returns-then-not-is_unmarked

@@ -1,4 +1,4 @@
-use Rattle.std.proofs.Common.{arith, refl}
+use Rattle.std.proofs.Common.{refl}
 use Rattle.data_url.proofs.mime.RoundTrips.{adds_more, prints_ends, prints_more, prints_starts}
 use Rattle.data_url.proofs.mime.MimeDisplay.fmt.Goals as goal
 
@@ -19,6 +19,3 @@ loop-name-preserved g c = (
 pub returns-clause-styled : goal.returns-clause-styled
 returns-clause-styled g c plain ok = prints_ends _ c.loop-name.invariant.1 c.deref-name-items.ensures.value
     c.loop-name-test.false (λ p. c.flush.ensures.written p ok) plain
-
-pub returns-clause-writes : goal.returns-clause-writes
-returns-clause-writes g c plain ok = let styled = returns-clause-styled g c plain.flush ok in grind arith

@@ -1,5 +1,5 @@
 use Rattle.std.proofs.Common.{◌-◌, arith, length, refl}
-use Rattle.data_url.proofs.mime.Fingerprints.{fingerprint_is}
+use Rattle.data_url.proofs.mime.FirstNames.{fingerprint_is}
 use Rattle.data_url.proofs.mime.kept.fingerprint.Goals as goal
 
 pub returns : goal.returns

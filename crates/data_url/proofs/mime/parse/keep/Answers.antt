@@ -1,5 +1,5 @@
-use Rattle.std.{proofs.Common.{◌++◌, ap, inl, inr, map, sym, ◌∙◌}, proofs.lemmas.Result.{on_ok_weaker}}
-use Rattle.std.{specs.Char.{to_ascii_lowercase}, specs.Option.{option_map}, specs.Str.{chars}}
+use Rattle.std.proofs.{Common.{◌++◌, ap, inl, inr, map, sym, ◌∙◌}, lemmas.Result.{on_ok_weaker}}
+use Rattle.std.specs.{Char.{to_ascii_lowercase}, Option.{option_map}, Str.{chars}}
 use Rattle.data_url.specs.{MimeType.{code_points}, Steps.Kept.{pairs_of}, Steps.Parsing.{unless_named, value_of}}
 use Rattle.data_url.proofs.mime.FirstNames.{not_kept, new_pair, none_added, token_text_lower}
 use Rattle.data_url.proofs.mime.parse.keep.Goals as goal

@@ -5,5 +5,5 @@ pub returns-then-is_empty-clause-value : goal.returns-then-is_empty-clause-value
 returns-then-is_empty-clause-value c =
     let t = c.without_trailing_whitespace-value in
     no_value c.utf8.text c.as_bytes-bytes.ensures.value c.long_span-quotable.ensures.prefix
-    c.parameter_len.ensures.prefix t.utf8 c.split_at.ensures.front
+    c.span.ensures.prefix t.utf8 c.split_at.ensures.front
     t.ensures.bytes t.ensures.without c.is_empty.ensures c.then-is_empty.either

@@ -1,6 +1,6 @@
 -- What was written and what is left to write are together the whole text.
-use Rattle.std.{proofs.Common.{◌≡◌, ℕ, List, ◌++◌, encode_utf8_all}, specs.Fmt.{HasWrittenStyled, IsFlush}}
-use Rattle.std.{specs.List.{flat_map}, specs.Str.{IsUtf8, chars}, specs.Str.Iter.{chars_rest}}
+use Rattle.std.proofs.Common.{◌≡◌, ℕ, List, ◌++◌, encode_utf8_all}
+use Rattle.std.specs.{Fmt.{HasWrittenStyled, IsFlush}, List.{flat_map}, Str.{IsUtf8, chars}, Str.Iter.{chars_rest}}
 use Rattle.data_url.specs.Mime.{escaped_code_point}
 use Rattle.data_url.proofs.mime.print.write_each_escaped.Given as goal
 

@@ -1,7 +1,7 @@
 use Rattle.std.proofs.Common.{arith, ap}
-use lib.Count.{count_trailing_zeros}
-use Rattle.data_url.proofs.{classes.Rows.{one_row_more, row_front}, mime.Escapes.{copies_on, plain_front}}
 use Rattle.data_url.specs.declared.classes.TheConstants.{ESCAPED}
+use Rattle.data_url.proofs.{classes.Rows.{one_row_more, row_front}, mime.TokenTexts.{copies_on, plain_front}}
+use lib.Count.{count_trailing_zeros}
 use Rattle.data_url.proofs.mime.values.copy_rows.Goals as goal
 
 pub returns-then-not-is_unmarked : goal.returns-then-not-is_unmarked

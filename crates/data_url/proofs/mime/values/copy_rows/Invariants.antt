@@ -1,6 +1,6 @@
 -- The rows so far are copied, and no byte of them is '"' or '\'.
 use Rattle.std.proofs.Common.{◌-◌, length}
-use Rattle.data_url.proofs.mime.Escapes.{IsCopied}
+use Rattle.data_url.proofs.mime.TokenTexts.{IsCopied}
 use Rattle.data_url.proofs.mime.values.copy_rows.Given as goal
 
 abbrev pub invariant-loop-copied : goal.invariant-loop-copied

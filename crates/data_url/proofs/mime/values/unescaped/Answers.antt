@@ -1,5 +1,5 @@
-use Rattle.std.{proofs.Common.{Global, Vec, ap, length, string_bytes, ℕ, ◌∙◌}, proofs.lemmas.Result.{IfOk-weaker}}
-use Rattle.data_url.proofs.mime.{Escapes.{unescapes_all, value_chars, value_utf8}, Parsing.{copied}}
+use Rattle.std.proofs.{Common.{Global, Vec, ap, length, string_bytes, ℕ, ◌∙◌}, lemmas.Result.{IfOk-weaker}}
+use Rattle.data_url.proofs.{mime.TokenTexts.{unescapes_all, value_chars, value_utf8}, mime.Parsing.{copied}}
 use Rattle.data_url.proofs.mime.values.unescaped.Goals as goal
 
 pub returns-then-long_span-bytes : goal.returns-then-long_span-bytes

@@ -1,6 +1,6 @@
 -- The bytes so far, and the value of the bytes from the place on, are the value of the whole text.
 use Rattle.std.proofs.Common.{◌-◌, length}
-use Rattle.data_url.proofs.mime.Escapes.{Unescaping}
+use Rattle.data_url.proofs.mime.TokenTexts.{Unescaping}
 use Rattle.data_url.proofs.mime.values.unescaped.Given as goal
 
 abbrev pub invariant-loop-at : goal.invariant-loop-at

@@ -1,6 +1,5 @@
 use Rattle.std.proofs.Common.{arith, refl}
-use Rattle.data_url.specs.Url.{in_fragment_set, in_path_set, in_query_set}
-use Rattle.data_url.specs.declared.percent.table.TheConstants.{FRAGMENT, PATH, QUERY}
+use Rattle.data_url.specs.{Url.{in_fragment_set, in_path_set, in_query_set}, declared.percent.table.TheConstants.{FRAGMENT, PATH, QUERY}}
 use Rattle.data_url.proofs.percent.Encoding.{row_by}
 use Rattle.data_url.proofs.percent.table.entry.Goals as goal
 
