@@ -106,15 +106,15 @@ no_digit : {text : List ℕ} {place looks looks' : ℕ} → NoDigit text place l
 no_digit {text} {place} {looks} {looks'} n =
     grind (arith, same n.skipped, other_first (drop n.end text), get_or-drop, length-drop)
 
--- a '%' and at most one byte before no digit are no escape
-pub no_escape : (raw s : List ℕ) → length raw < 2 → begins_with_digit s ≡ false
-    → begins_with_escape (37 ∷ (raw ++ s)) ≡ false
-no_escape [] [] l h = refl
-no_escape [] (b ∷ []) l h = refl
-no_escape [] (b ∷ c ∷ s) l h = grind (arith, and_left)
-no_escape (b ∷ []) [] l h = refl
-no_escape (b ∷ []) (c ∷ s) l h = grind (arith, and_right)
-no_escape (b ∷ c ∷ raw) s l h = absurd (omega arith)
+-- a byte and at most one more before no digit are no escape
+pub no_escape : (a : ℕ) (raw s : List ℕ) → length raw < 2 → begins_with_digit s ≡ false
+    → begins_with_escape (a ∷ (raw ++ s)) ≡ false
+no_escape a [] [] l h = refl
+no_escape a [] (b ∷ []) l h = refl
+no_escape a [] (b ∷ c ∷ s) l h = grind (arith, cases_Bool (eqb a 37))
+no_escape a (b ∷ []) [] l h = refl
+no_escape a (b ∷ []) (c ∷ s) l h = grind (arith, cases_Bool (eqb a 37), cases_Bool (is_ascii_hexdigit b))
+no_escape a (b ∷ c ∷ raw) s l h = absurd (omega arith)
 
 -- a '%', and then the text after it
 percent_first : (text : List ℕ) (place : ℕ) → place < length text → get_or text place 0 ≡ 37
@@ -126,7 +126,7 @@ percent_first text place l h = grind (arith, drop_more text place 0, cleaned_kee
 pub escape_no_high : {text : List ℕ} {place looks looks' : ℕ} → place < length text → get_or text place 0 ≡ 37
     → NoDigit text (place + 1) looks looks' → NoEscape text place looks looks'
 escape_no_high {text} {place} {looks} {looks'} l h n =
-    grind (arith, percent_first, same n.skipped, no_escape [] (cleaned (drop (place + 1) text)), no_digit n)
+    grind (arith, percent_first, same n.skipped, no_escape 37 [] (cleaned (drop (place + 1) text)), no_digit n)
 
 -- if there is no digit after the first one, there is no escape
 pub escape_no_low : {text text' : List ℕ} {place value after looks looks' looks'' : ℕ} → text' ≡ text
@@ -134,7 +134,7 @@ pub escape_no_low : {text text' : List ℕ} {place value after looks looks' look
     → NoDigit text' after looks' looks'' → NoEscape text place looks looks''
 escape_no_low {text} {text'} {place} {value} {after} {looks} {looks'} {looks''} e l h d m =
     let n = rw e at m in
-    let none = no_escape (get_or text (after - 1) 0 ∷ []) (cleaned (drop after text)) (omega arith) (no_digit n) in
+    let none = no_escape 37 (get_or text (after - 1) 0 ∷ []) (cleaned (drop after text)) (omega arith) (no_digit n) in
     grind (arith, percent_first, has_digit d, same n.skipped)
 
 -- a digit and a digit after it are an escape

@@ -25,7 +25,7 @@ use Rattle.data_url.specs.{Url.{before, after, front, without_tabs_and_newlines}
 use Rattle.data_url.specs.{declared.escapes.Piece.TheVariants.{Byte, Slice}, declared.escapes.cursor.Cursor.{Cursor}}
 use Rattle.data_url.specs.declared.escapes.cursor.Ahead.TheVariants.{AfterEscape, End, Escape, Unknown}
 use Rattle.data_url.specs.{declared.escapes.source.Source.{Source}, declared.escapes.stops.Block.{Block}}
-use Rattle.data_url.proofs.escapes.BlockMarks.{copied_wide, looking_on, padded_is}
+use Rattle.data_url.proofs.escapes.BlockMarks.{copied_wide, looking_on, marks_padded, padded_is}
 use Rattle.data_url.proofs.escapes.Reading.{ends_empty, paid_le, paid_on}
 use Rattle.data_url.proofs.escapes.Reading.{percent_nil, spells_clear, spells_escape, spells_none, spells_then}
 use Rattle.data_url.proofs.{percent.Encoding.{decoded_escape}, runs.Runs.{none_or_some}}
@@ -432,10 +432,10 @@ pub ruleset stretches = (looking_escape, looking_paid, byte_part, byte_next, goe
 pub ruleset gathering = (gathers_byte, gathers_nothing, gathers_then, gathers_escape, reads_escape, ended_at, smaller)
 
 -- the lemmas for `Cursor`
-pub ruleset walks = (stretches, gathering, knows_on, ahead_is, spells_none, spells_then)
+pub ruleset walks = (stretches, gathering, marks_padded, knows_on, ahead_is, spells_none, spells_then)
 
 -- the lemmas for `Source`
-pub ruleset sources = (copied_wide, padded_is, hash_at, drop_all, IsCharBoundary-after_ascii)
+pub ruleset sources = (copied_wide, marks_padded, padded_is, hash_at, drop_all, IsCharBoundary-after_ascii)
 
 -- the lemmas for `Pieces`
 pub ruleset walking = (body_end, rest_over, over_rest, again, few_looks)

@@ -159,9 +159,9 @@ IsWide c is_followed = is_followed ≡ true → c.block.seen + 64 ≤ length (te
 
 -- the block that was read last begins at the walk's index, and these are its 64 bytes
 pub record IsWhole (c : Cursor) (bytes : List ℕ) : Type 0 where
-  pub base_is : c.block.base ≡ c.place
   pub seen_is : c.block.seen ≡ c.place + 64
   pub bytes_are : bytes ≡ take 64 (drop c.place (text_of c))
+  pub marks_are : c.block.marks ≡ mask_l (map is_marked bytes)
 
 -- a walk gathers bytes, and can gather more
 pub record Gathered (c c' : Cursor) (room room' : List ℕ) (len len' : ℕ) : Type 0 where

@@ -12,7 +12,7 @@ ghost use Rattle.data_url.specs.Steps.Window.{is_marked};
 
 use super::cursor::{Ahead, Cursor};
 use super::gather::BUFFER_LEN;
-use super::lanes::{BLOCK, bits_of, decode_escapes, len_before_stop, marks_of, stops_of};
+use super::lanes::{BLOCK, decode_escapes, marks_of, stops_of};
 use super::source::padded;
 use super::stops::Block;
 use crate::packing::pack_block;
@@ -150,15 +150,14 @@ fn pack_to_stop(
     if marks.count_ones() < SEVERAL {
         return None;
     }
-    let percents = bits_of(bytes, b'%');
+    let percents = bytes.simd_eq(u8x64::splat(b'%')).to_bitmask();
     let (passed, stops) = stops_of(bytes, marks, percents);
-    let used = len_before_stop(stops, size);
+    let used = size.min(stops.trailing_zeros() as usize);
     if used < FEW {
         return None;
     }
     let (values, starts) = decode_escapes(bytes, percents);
-    let first = u64::MAX >> (BLOCK - used);
-    let dropped = ((6 * starts + passed) & first) + !first;
+    let dropped = (6 * starts + passed) | !(u64::MAX >> (BLOCK - used));
     Some((used, pack_block(values, dropped, &mut room[..], len)))
 }
 
