@@ -19,7 +19,7 @@ use Rattle.std.proofs.lemmas.List.Elements.{filter-append}
 use Rattle.data_url.specs.Steps.Chunks.{IsBodyPrefix, IsOver, Spans, Takes}
 use Rattle.data_url.proofs.escapes.Reading.{body_shorter}
 use Rattle.data_url.specs.Steps.Tail.{BeginsFragment, IsBodyEnd, rest_fragment}
-use Rattle.data_url.specs.Steps.Walk.{Ended, EndsAt, Gathers, GoesOn, IsClear, IsNextMark, IsPart, Knows, KnowsAhead}
+use Rattle.data_url.specs.Steps.Walk.{Ended, EndsAt, Gathering, Gathers, GoesOn, IsClear, IsNextMark, IsPart, Knows, KnowsAhead}
 use Rattle.data_url.specs.Steps.Walk.{Looking, LooksOn, MayGather, Moves, Pays, Reads, Searching, Spells}
 use Rattle.data_url.specs.{Url.{before, after, front, without_tabs_and_newlines}, declared.escapes.cursor.Ahead.{Ahead}}
 use Rattle.data_url.specs.{declared.escapes.Piece.TheVariants.{Byte, Slice}, declared.escapes.cursor.Cursor.{Cursor}}
@@ -133,6 +133,10 @@ knows_on {c} {c'} {next} k g a = let text = g.on.text_stays in record { after_is
 pub ended_at : {c : Cursor} {s : Source} {b : Block} {mark : ℕ} → Looking s b mark 0 → c.source.text.now ≡ s.text.now
     → EndsAt s.text.now mark → c.source.looks + mark ≤ s.looks + length s.text.now → c.place ≡ mark → Ended c
 ended_at {c} {s} {b} {mark} k t h l e = grind (arith, paid_le)
+
+-- of a walk that gathers, nothing is known unless it has ended
+pub plain_unknown : {c : Cursor} → Gathering c → c.ahead ≢ End → c.ahead ≡ Unknown
+plain_unknown {c} g n = grind arith
 
 -- if `ahead` is a, and what a says is true, what `ahead` says is true
 pub ahead_is : (c : Cursor) (a : Ahead) → c.ahead ≡ a → KnowsAhead c a → KnowsAhead c c.ahead
@@ -432,7 +436,7 @@ pub ruleset stretches = (looking_escape, looking_paid, byte_part, byte_next, goe
 pub ruleset gathering = (gathers_byte, gathers_nothing, gathers_then, gathers_escape, reads_escape, ended_at, smaller)
 
 -- the lemmas for `Cursor`
-pub ruleset walks = (stretches, gathering, marks_padded, knows_on, ahead_is, spells_none, spells_then)
+pub ruleset walks = (stretches, gathering, marks_padded, plain_unknown, knows_on, ahead_is, spells_none, spells_then)
 
 -- the lemmas for `Source`
 pub ruleset sources = (copied_wide, marks_padded, padded_is, hash_at, drop_all, IsCharBoundary-after_ascii)

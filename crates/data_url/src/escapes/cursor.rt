@@ -110,60 +110,37 @@ impl<'a> Cursor<'a> {
         let mut from = self.place;
         loop {
             let mark = self.block.next_mark(&mut self.source, from);
+            let place = self.place;
+            let slice = self.source.cut(place, mark);
             match self.source.stop_at(mark, false) {
                 Stop::Stays => from = mark + 1,
-                Stop::Passed if mark == self.place => {
-                    self.place = mark + 1;
+                Stop::Passed => {
                     from = mark + 1;
+                    self.place = from;
+                    if place < mark {
+                        self.ahead = Ahead::Unknown;
+                        return Some(Piece::Slice(slice));
+                    }
                 }
-                Stop::Passed => return Some(self.slice_to(mark, mark + 1, Ahead::Unknown)),
-                Stop::Escape(value, end) if mark == self.place => {
+                Stop::Escape(value, end) if mark == place => {
                     self.place = end;
                     self.ahead = Ahead::AfterEscape;
                     return Some(Piece::Byte(value));
                 }
                 Stop::Escape(value, end) => {
-                    return Some(self.slice_to(mark, mark, Ahead::Escape(value, end)));
+                    self.place = mark;
+                    self.ahead = Ahead::Escape(value, end);
+                    return Some(Piece::Slice(slice));
                 }
-                Stop::End if mark == self.place => {
+                Stop::End => {
+                    self.place = mark;
                     self.ahead = Ahead::End;
-                    return None;
+                    if mark == place {
+                        return None;
+                    }
+                    return Some(Piece::Slice(slice));
                 }
-                Stop::End => return Some(self.slice_to(mark, mark, Ahead::End)),
             }
         }
-    }
-
-    /// The stretch from the place up to a mark. The walk goes on at another place, of which something is known.
-    #[inline(always)]
-    fn slice_to(&mut self, mark: usize, next: usize, ahead: Ahead) -> Piece<'a>
-        requires some { self.old.place < mark }
-        requires ends { is_slice_end (drop mark (text_of self.old)) ≡ true }
-        requires after { Spells (text_of self.old) mark next [] [] }
-        ensures walk { self.new ≡ record self.old { place = next; ahead = ahead } }
-        ensures part { (from : ℕ) → Searching (text_of self.old) from self.old.place mark
-            → IsPart (text_of self.old) from next result }
-    {
-        let slice = self.source.cut(self.place, mark);
-        self.place = next;
-        self.ahead = ahead;
-        Piece::Slice(slice)
-    }
-
-    /// Returns whether the body ends at the place.
-    #[inline(always)]
-    pub(super) fn is_over(&mut self) -> bool
-        requires gathering { Gathering self.old }
-        ensures gathering { Gathering self.new }
-        ensures source { self.new.source ≡ self.old.source }
-        ensures place { self.new.place ≡ self.old.place }
-        ensures more { result ≡ false → (self.new ≡ self.old) × (self.old.ahead ≡ Ahead.Unknown)
-            × (self.old.place < length (text_of self.old)) }
-    {
-        if !matches!(self.ahead, Ahead::End) && self.place < self.source.len() {
-            return false;
-        }
-        self.ahead = Ahead::End;
-        true
     }
 }

@@ -30,7 +30,17 @@ impl<'a> Cursor<'a> {
         ensures gives { GivesBytes (walk_of self.old) result (walk_of self.new) }
         ensures knows { Knows self.new }
     {
-        let mut len = self.gather_known(room);
+        let mut len = 0;
+        match self.ahead {
+            Ahead::Escape(value, end) => {
+                room[0] = value;
+                len = 1;
+                self.place = end;
+                self.ahead = Ahead::Unknown;
+            }
+            Ahead::AfterEscape => self.ahead = Ahead::Unknown,
+            Ahead::Unknown | Ahead::End => {}
+        }
         while len <= BUFFER_LEN - 2 * BLOCK {
             let Some(more) = self.gather_more(room, len) else {
                 break;
@@ -50,27 +60,6 @@ impl<'a> Cursor<'a> {
         }
     }
 
-    /// Gathers the escape that is known to be at the place. Returns how many bytes are gathered then, 0 or 1.
-    #[inline(always)]
-    fn gather_known(&mut self, room: &mut [u8; BUFFER_LEN]) -> usize
-        requires { KnowsAhead self.old self.old.ahead }
-        ensures { Gathered self.old self.new room.old room.new 0 result }
-    {
-        match self.ahead {
-            Ahead::Escape(value, end) => {
-                room[0] = value;
-                self.place = end;
-                self.ahead = Ahead::Unknown;
-                1
-            }
-            Ahead::AfterEscape => {
-                self.ahead = Ahead::Unknown;
-                0
-            }
-            Ahead::Unknown | Ahead::End => 0,
-        }
-    }
-
     /// Gathers the next block, or what is left of the last one, after the bytes that were gathered before. Returns how many
     /// bytes are gathered then, or None if the body ends or a long stretch begins.
     #[inline(always)]
@@ -82,14 +71,21 @@ impl<'a> Cursor<'a> {
         ensures moves { IfSome result (λ _. Moves self.old self.new
             × (self.old.ahead ≡ Ahead.Unknown)) }
     {
-        if self.is_over() {
+        if let Ahead::End = self.ahead {
+            return None;
+        }
+        if self.place >= self.source.len() {
+            self.ahead = Ahead::End;
             return None;
         }
         if self.place >= self.block.seen {
             if self.source.len() - self.place >= 2 * BLOCK {
                 let bytes = self.look_whole();
                 if self.block.marks.count_ones() < SEVERAL {
-                    return self.gather_sparse(room, len);
+                    if len == 0 && self.block.marks == 0 {
+                        return None;
+                    }
+                    return Some(self.gather_block(room, len, true));
                 }
                 if let Some(more) = self.pack_whole(bytes, room, len) {
                     return Some(more);
@@ -107,23 +103,6 @@ impl<'a> Cursor<'a> {
         } else {
             self.gather_block(room, len, false)
         })
-    }
-
-    /// Gathers a block with few marks, which another block follows, after the bytes that were gathered before. Returns how many
-    /// bytes are gathered then, or None if a long stretch begins.
-    #[inline(always)]
-    fn gather_sparse(&mut self, room: &mut [u8; BUFFER_LEN], len: usize) -> Option<usize>
-        requires may { MayGather self.old len }
-        requires here { self.old.place < self.old.block.seen }
-        requires wide { IsWide self.old true }
-        ensures gathered { Gathered self.old self.new room.old room.new len
-            (option_map_or (λ n. n) result len) }
-        ensures moves { IfSome result (λ _. Moves self.old self.new) }
-    {
-        if len == 0 && self.block.marks == 0 {
-            return None;
-        }
-        Some(self.gather_block(room, len, true))
     }
 
     /// Gathers the rest of the block that was read, after the bytes that were gathered before. If the block `is_followed` by

@@ -115,7 +115,11 @@ impl<'a> Source<'a> {
         Block {
             base: place,
             seen: place + len,
-            marks: first_marks(rest),
+            marks: if rest.len() < BLOCK {
+                last_marks(rest)
+            } else {
+                marks_of(u8x64::from_slice(&rest[..BLOCK]), true)
+            },
         }
     }
 
@@ -176,18 +180,6 @@ pub(crate) fn fragment_at(text: &str, place: usize) -> Option<&str>
         return None;
     }
     Some(&text[place + 1..])
-}
-
-/// Returns the marks of the first 64 bytes, or of fewer.
-#[inline(always)]
-fn first_marks(rest: &[u8]) -> u64
-    ensures { result ≡ mask_l (map is_marked (take 64 rest.now)) }
-{
-    if rest.len() < BLOCK {
-        last_marks(rest)
-    } else {
-        marks_of(u8x64::from_slice(&rest[..BLOCK]), true)
-    }
 }
 
 /// Returns the marks of fewer than 64 bytes.

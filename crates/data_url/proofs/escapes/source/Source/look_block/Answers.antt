@@ -1,6 +1,10 @@
-use Rattle.std.proofs.Common.{arith}
+use Rattle.std.proofs.Common.{ap, arith, map, take-take, ◌∙◌}
+use Rattle.data_url.specs.Steps.Window.{is_marked}
 use Rattle.data_url.proofs.escapes.BlockMarks.{block_at}
 use Rattle.data_url.proofs.escapes.source.Source.look_block.Goals as goal
+use lib.Lanes.{mask_l}
 
-pub returns-clause-block : goal.returns-clause-block
-returns-clause-block c = block_at _ _ _ _ _ c.as_bytes.ensures.value c.requires (grind arith) c.first_marks.ensures
+pub returns-else-rest-lt-BLOCK-clause-block : goal.returns-else-rest-lt-BLOCK-clause-block
+returns-else-rest-lt-BLOCK-clause-block c =
+    block_at _ _ _ _ _ c.as_bytes.ensures.value c.requires (grind arith)
+    (c.marks_of.ensures ∙ ap (λ l. mask_l (map is_marked l)) (take-take 64 64 _ (omega arith)))
