@@ -2,10 +2,9 @@
 
 #![tactic(auto, using(crate::proofs::escapes::Walking::walks))]
 
-ghost use Rattle.std.specs.Prelude.{ℕ, [], ◌≡◌, ◌+◌, ◌<◌, drop, false, length, true};
-ghost use Rattle.data_url.specs.Pieces.{is_slice_end, text_of, walk_at_start, walk_of};
-ghost use Rattle.data_url.specs.Steps.Chunks.{IsBodyPrefix};
-ghost use Rattle.data_url.specs.Steps.Walk.{Gathering, GoesOn, IsPart, Knows, KnowsAhead, Looking, Searching, Spells};
+ghost use Rattle.std.specs.Prelude.{◌≡◌};
+ghost use Rattle.data_url.specs.{Pieces.{text_of, walk_at_start, walk_of}, Steps.Chunks.{IsBodyPrefix}};
+ghost use Rattle.data_url.specs.Steps.Walk.{GoesOn, Knows, KnowsAhead, Looking};
 
 use super::Piece;
 use super::source::Source;
@@ -56,7 +55,7 @@ impl<'a> Cursor<'a> {
     }
 
     /// The bytes before the first marked byte. The walk goes there. If the first byte is a `%`, it is read by itself, so that the
-    /// bytes after its escape can be packed.
+    /// bytes after its escape can be packed: it is a block. The look at another first byte does not count against the bound.
     #[inline(always)]
     pub(super) fn next_prefix(&mut self) -> &'a [u8]
         requires start { self.old.place ≡ 0 }
@@ -64,7 +63,12 @@ impl<'a> Cursor<'a> {
         ensures prefix { IsBodyPrefix (text_of self.old) result.now (walk_of self.new) }
         ensures knows { Knows self.new }
     {
-        self.block = self.source.look_first();
+        let is_percent = self.source.len() > 0 && self.source.look(0) == b'%';
+        self.block = Block {
+            base: 0,
+            seen: usize::from(is_percent),
+            marks: u64::from(is_percent),
+        };
         let mark = self.block.next_mark(&mut self.source, 0);
         self.place = mark;
         self.ahead = if mark == self.source.len() {

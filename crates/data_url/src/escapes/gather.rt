@@ -2,13 +2,9 @@
 
 #![tactic(auto, using(crate::proofs::escapes::Walking::walks))]
 
-ghost use Rattle.std.specs.Prelude.{◌≡◌, ◌+◌, ◌<◌, ◌≤◌, IfSome, false, length, slice_index, true};
-ghost use Rattle.std.specs.Option.{option_map_or};
-ghost use Rattle.data_url.specs.Pieces.{text_of, walk_of};
-ghost use Rattle.data_url.specs.Steps.Chunks.{GivesBytes};
-ghost use Rattle.data_url.specs.Steps.Walk.{Gathered, Gathering, Gathers, HasRoom, IsGathered, IsWide};
-ghost use Rattle.data_url.specs.Steps.Walk.{Knows, KnowsAhead, Looking, MayGather, Moves};
-ghost use Rattle.data_url.specs.Steps.Window.{is_marked};
+ghost use Rattle.std.specs.{Option.{option_map_or}, Prelude.{◌≡◌, ◌<◌, ◌≤◌, IfSome, slice_index, true}};
+ghost use Rattle.data_url.specs.{Pieces.{text_of, walk_of}, Steps.Chunks.{GivesBytes}, Steps.Window.{is_marked}};
+ghost use Rattle.data_url.specs.Steps.Walk.{Gathered, Gathering, Gathers, HasRoom, IsGathered, IsWide, Knows, Looking, MayGather, Moves};
 
 use super::Piece;
 use super::cursor::{Ahead, Cursor, ESCAPE};

@@ -2,13 +2,10 @@
 
 #![tactic(auto, using(crate::proofs::escapes::Walking::walks))]
 
-ghost use Rattle.std.specs.Prelude.{◌≡◌, ◌+◌, ◌-◌, ◌++◌, ◌<◌, ◌≤◌};
-ghost use Rattle.std.specs.Prelude.{IfNone, IfSome, length, map, replicate};
+ghost use Rattle.std.specs.Prelude.{◌≡◌, ◌+◌, ◌-◌, ◌++◌, ◌<◌, ◌≤◌, IfNone, IfSome, length, map, replicate};
 ghost use Rattle.std.specs.Simd.Lanes.{mask_l};
-ghost use Rattle.data_url.specs.Pieces.{text_of};
-ghost use Rattle.data_url.specs.Steps.Escapes.{IsPacked};
+ghost use Rattle.data_url.specs.{Pieces.{text_of}, Steps.Escapes.{IsPacked}, Steps.Window.{is_marked}};
 ghost use Rattle.data_url.specs.Steps.Walk.{IsWhole, Looking, LooksOn, MayGather, Packs};
-ghost use Rattle.data_url.specs.Steps.Window.{is_marked};
 
 use super::cursor::{Ahead, Cursor};
 use super::gather::BUFFER_LEN;
@@ -68,7 +65,6 @@ impl<'a> Cursor<'a> {
         ensures packed { IfSome result (Packs self.old self.new room.old room.new len) }
         ensures none { IfNone result ((self.new ≡ self.old) × (room.new ≡ room.old)) }
     {
-        let _len = self.source.len();
         let (used, end) = pack_to_stop(bytes, self.block.marks, BLOCK, room, len)?;
         self.pass_packed(used);
         Some(end)

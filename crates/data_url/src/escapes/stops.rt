@@ -3,8 +3,7 @@
 #![tactic(auto, using(crate::proofs::escapes::BlockMarks::stops))]
 
 ghost use Rattle.std.specs.Prelude.{IsTrue, ◌≡◌, ◌+◌, ◌^◌, ◌<◌, ◌≤◌, MatchOption, length, slice_index, true};
-ghost use Rattle.data_url.specs.Steps.Walk.{IsClear, IsNextMark, IsStop, Looking, LooksOn};
-ghost use Rattle.data_url.specs.Steps.Window.{is_marked};
+ghost use Rattle.data_url.specs.Steps.{Walk.{IsClear, IsNextMark, IsStop, Looking, LooksOn}, Window.{is_marked}};
 
 use super::source::Source;
 
@@ -37,7 +36,6 @@ impl Block {
         ensures { MatchOption result (IsClear source.now.text.now place self.now.seen)
             (λ mark. (mark < self.now.seen) × IsNextMark source.now.text.now place mark) }
     {
-        let _len = source.len();
         let marks = self.marks >> (place - self.base);
         if marks == 0 {
             return None;
@@ -88,17 +86,13 @@ impl<'a> Source<'a> {
         if !followed && mark >= self.len() {
             return Stop::End;
         }
-        let byte = self.look(mark);
-        if byte == b'%' {
-            return match self.escape(mark, followed) {
+        match self.look(mark) {
+            b'%' => match self.escape(mark, followed) {
                 Some((value, end)) => Stop::Escape(value, end),
                 None => Stop::Stays,
-            };
-        }
-        if byte == b'#' {
-            Stop::End
-        } else {
-            Stop::Passed
+            },
+            b'#' => Stop::End,
+            _ => Stop::Passed,
         }
     }
 }

@@ -4,8 +4,8 @@ use Rattle.data_url.proofs.escapes.source.Source.stop_at.Goals as goal
 
 pub returns-in-None-clause-stop : goal.returns-in-None-clause-stop
 returns-in-None-clause-stop c =
-    stop_percent (grind arith) (sym c.look-byte.ensures.byte ∙ c.if-byte-eq37.true)
-    (rw (c.look-byte.ensures.text, c.look-byte.ensures.looks) at c.in-None.ensures.found)
+    stop_percent (grind arith) (sym c.look.ensures.byte ∙ c.in-37.is)
+    (rw (c.look.ensures.text, c.look.ensures.looks) at c.in-None.ensures.found)
 
-pub returns-else-byte-eq35-clause-stop : goal.returns-else-byte-eq35-clause-stop
-returns-else-byte-eq35-clause-stop c = rw c.look-byte.ensures.looks (stop_passed _ _ _ (grind arith) (grind arith))
+pub returns-in_default-clause-stop : goal.returns-in_default-clause-stop
+returns-in_default-clause-stop c = rw c.look.ensures.looks (stop_passed _ _ _ (grind arith) (grind arith))
