@@ -13,10 +13,10 @@ mod digits;
 mod gather;
 mod lanes;
 mod looks;
+mod marks;
 mod pack;
 mod raw;
 mod source;
-mod stops;
 
 use cursor::{Ahead, Cursor};
 pub(crate) use gather::BUFFER_LEN;

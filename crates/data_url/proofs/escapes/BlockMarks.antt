@@ -1,26 +1,21 @@
 -- Blocks of a text and their marks: lanes that are looked up in a table and compared. For `marks_of`, `look_block`
 -- and `next_mark`.
-use Rattle.std.proofs.Common.{List, [], ◌∷◌, ◌++◌, length, drop, get_or, refl, sym, ap, ◌∙◌, arith}
-use Rattle.std.proofs.Common.{bit_and, w8, Fits, ◌≢◌, inl, inr, ◌==◌, slice_range, take_all, length-take-le}
-use Rattle.std.proofs.Common.{take-take}
-use Rattle.std.proofs.Common.{eqb, eqb-true, take, ◌/◌, ◌^◌, map, min, replicate, ◌%◌}
-use Rattle.std.proofs.Common.{map-id, ◌≡◌, ℕ, zero, suc, ◌+◌, ◌-◌, ◌<◌, ◌≤◌, Bool, true, false, not, cond}
-use Rattle.std.{proofs.Common.{leb}, proofs.Math.Nat.{div-div-eq-div-mul, pow-suc}}
-use Rattle.std.proofs.lemmas.Nat.{and_le_r}
-use Rattle.std.{proofs.Math.Seq.{take-append-add}, specs.List.{list_all, prefix_len}}
-use Rattle.std.proofs.lemmas.Bool.{agree_below_at, cases_Bool, cases_lt, eqb-true}
-use Rattle.std.proofs.lemmas.List.{drop-replicate, take_rest, take-append-le, drop-map, length-map}
-use Rattle.std.proofs.lemmas.Simd.{SwzOk-from_below, get_or-swz_l_below, mask_l-mod, swz_l, run_in_chunk_le}
-use Rattle.std.proofs.lemmas.Simd.{bitmask_splat, run_in_chunk_stops, trailing_mask_l, tops_compared, zip2_of_maps}
-use Rattle.std.proofs.lemmas.Simd.{zip2_splat, none_from_empty_mask, run_in_chunk_fails, put_chunk_whole, SwzOk}
-use Rattle.std.{specs.Int.Count.{count_trailing_zeros}, specs.Simd.Lanes.{chunk, mask_l, put_chunk, Each1, top, zip2}}
-use Rattle.data_url.specs.{Steps.Window.{is_marked, is_plain}}
-use Rattle.data_url.specs.Steps.Walk.{IsClear, IsBlock, IsNextMark, Looking}
-use Rattle.data_url.specs.{declared.escapes.lanes.TheConstants.{MARKED}}
-use Rattle.data_url.specs.{declared.escapes.source.Source.{Source}, declared.escapes.stops.Block.{Block}}
+use Rattle.std.proofs.Common.{Bool, Fits, List, ap, arith, bit_and, cond, drop, eqb, eqb-true, false, get_or, inl, inr}
+use Rattle.std.proofs.Common.{leb, length, length-take-le, map, map-id, min, not, refl, replicate, slice_range, suc}
+use Rattle.std.proofs.Common.{sym, take, take-take, take_all, true, w8, zero, [], ℕ, ◌%◌, ◌++◌, ◌+◌, ◌-◌, ◌/◌, ◌<◌}
+use Rattle.std.proofs.{Common.{◌==◌, ◌^◌, ◌∙◌, ◌∷◌, ◌≡◌, ◌≢◌, ◌≤◌}, Math.Nat.{div-div-eq-div-mul, pow-suc}}
+use Rattle.std.proofs.{Math.Seq.{take-append-add}, lemmas.Bool.{agree_below_at, cases_Bool, cases_lt, eqb-true}}
+use Rattle.std.proofs.lemmas.{List.{drop-map, drop-replicate, length-map, take-append-le, take_rest}, Nat.{and_le_r}}
+use Rattle.std.proofs.lemmas.Simd.{SwzOk, SwzOk-from_below, bitmask_splat, get_or-swz_l_below, mask_l-mod}
+use Rattle.std.proofs.lemmas.Simd.{none_from_empty_mask, put_chunk_whole, run_in_chunk_fails, run_in_chunk_le}
+use Rattle.std.proofs.lemmas.Simd.{run_in_chunk_stops, swz_l, tops_compared, trailing_mask_l, zip2_of_maps, zip2_splat}
+use Rattle.std.specs.{Int.Count.{count_trailing_zeros}, List.{list_all, prefix_len}, Simd.Lanes.{Each1, chunk, mask_l}}
+use Rattle.std.specs.Simd.Lanes.{put_chunk, top, zip2}
+use Rattle.data_url.{proofs.escapes.Reading.{escape_ends, paid_on, paid_percent}, specs.Steps.Walk.{IsBlock, IsClear}}
+use Rattle.data_url.specs.Steps.{Walk.{IsNextMark, Looking}, Window.{is_marked, is_plain}}
+use Rattle.data_url.specs.declared.escapes.{lanes.TheConstants.{MARKED}, marks.Block.{Block}, source.Source.{Source}}
 use borrow.Rule.Slice.PartMut.{mid_of, post_of, put_mid}
-pub use Rattle.std.proofs.lemmas.List.{drop_more, get_or-drop, length-drop, drop-drop, drop_all, drop-take, length-take}
-use Rattle.data_url.proofs.escapes.Reading.{escape_ends, paid_on, paid_percent}
+pub use Rattle.std.proofs.lemmas.List.{drop-drop, drop-take, drop_all, drop_more, get_or-drop, length-drop, length-take}
 
 -- Blocks of a body and their marks. For `look_block` and `next_mark`.
 
@@ -216,5 +211,5 @@ looking_mark {s} {b} {place} {to} k m = looking_on to k m.forward m.within
 pub looking_seen : {s : Source} {b : Block} {place : ℕ} → Looking s b place 0 → place ≤ b.seen → Looking s b b.seen 0
 looking_seen {s} {b} {place} k l = looking_on b.seen k l k.block.seen_le
 
--- the lemmas for `next_mark` and `stop_at`
-pub ruleset stops = (paid_percent, escape_ends, drop_more, looking_mark, looking_seen, looking_block)
+-- the lemmas for `next_mark` and `at_mark`
+pub ruleset mark_places = (paid_percent, escape_ends, drop_more, looking_mark, looking_seen, looking_block)

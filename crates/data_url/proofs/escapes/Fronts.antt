@@ -1,21 +1,13 @@
 -- The bytes of a block before its first stop: what is packed of them is their part of the body. For `pack_to_stop`.
-use Rattle.std.proofs.Common.{inl, inr, List, [], ◌∷◌, ◌++◌, map, ◌≡◌, ℕ, ◌≤◌, ◌<◌, true, false, cond, eqb, suc, not, take}
-use Rattle.std.proofs.Common.{length, ap, ◌+◌, ◌*◌, Bool, refl, sym, ◌∙◌, arith, ◌==◌, ◌&&◌, lit<}
-use Rattle.std.proofs.Common.{◌||◌, subst}
-use Rattle.std.specs.Char.{digit_value, is_ascii_hexdigit}
-use Rattle.std.specs.List.{prefix_len}
-use Rattle.std.proofs.lemmas.Bool.{and_parts, cases_Bool, eqb-true}
-use Rattle.data_url.specs.Percent.{begins_with_escape, percent_decoding}
-use Rattle.data_url.specs.Fetch.{plain_body}
-use Rattle.data_url.specs.Steps.Groups.{clear}
-use Rattle.data_url.proofs.escapes.EscapeDigits.{begins_other, begins_with_digit, cleaned_keeps, cleaned_nil}
-use Rattle.data_url.proofs.escapes.EscapeDigits.{cleaned_passes, hex_other, no_escape}
-use Rattle.data_url.proofs.escapes.Reading.{decoded_byte, percent_nil, plain_is}
-use Rattle.data_url.proofs.texts.Bytes.{after_other}
-use Rattle.data_url.specs.{Steps.Digits.{cleaned}, Url.{after, is_tab_or_newline}}
-use Rattle.data_url.proofs.forgiving_base64.Spaces.{clear_bit}
-use Rattle.data_url.proofs.percent.Encoding.{decoded_escape}
-use Rattle.data_url.specs.Steps.Escapes.{escape_starts, first_value, is_unsure, packed_values, place_values, stops}
+use Rattle.std.proofs.Common.{List, arith, cond, eqb, false, inl, inr, length, lit<, map, not, refl, suc, take, true}
+use Rattle.std.proofs.{Common.{[], ℕ, ◌*◌, ◌++◌, ◌+◌, ◌<◌, ◌==◌, ◌∷◌, ◌≡◌, ◌≤◌}, lemmas.Bool.{and_parts, cases_Bool}}
+use Rattle.std.{proofs.lemmas.Bool.{eqb-true}, specs.Char.{digit_value, is_ascii_hexdigit}, specs.List.{prefix_len}}
+use Rattle.data_url.proofs.escapes.EscapeDigits.{begins_other, begins_with_digit, cleaned_keeps, cleaned_passes}
+use Rattle.data_url.proofs.escapes.{EscapeDigits.{hex_other, no_escape}, Reading.{decoded_byte, plain_is}}
+use Rattle.data_url.proofs.{forgiving_base64.Spaces.{clear_bit}, percent.Encoding.{decoded_escape}}
+use Rattle.data_url.{proofs.texts.Bytes.{after_other}, specs.Fetch.{plain_body}, specs.Percent.{begins_with_escape}}
+use Rattle.data_url.specs.Steps.{Digits.{cleaned}, Escapes.{escape_starts, first_value, is_unsure, packed_values}}
+use Rattle.data_url.specs.{Steps.Escapes.{place_values, stops}, Url.{after, is_tab_or_newline}}
 use lib.Lanes.{mask_l}
 
 -- a byte at which no escape begins stays
@@ -36,27 +28,16 @@ dropped_other b s h = grind (arith, cases_Bool (is_tab_or_newline b))
 -- where an escape begins, the bits of the two bytes after the first are set
 pub dropped_escape : (h l : ℕ) (s : List ℕ) → is_ascii_hexdigit h ≡ true → is_ascii_hexdigit l ≡ true
     → dropped (37 ∷ h ∷ l ∷ s) ≡ 0 + 2 * (1 + 2 * (1 + 2 * dropped s))
-dropped_escape h l s p q =
-    let second = begins_other h (l ∷ s) (grind (arith, hex_other)) in
-    let third = begins_other l s (grind (arith, hex_other)) in
-    grind (arith, hex_other)
+dropped_escape h l s p q = grind (arith, begins_other, hex_other)
 
 -- what is packed, byte by byte
 packed_tab : (b : ℕ) (s : List ℕ) (n : ℕ) → is_tab_or_newline b ≡ true
     → packed_values (b ∷ s) (suc n) ≡ packed_values s n
-packed_tab b s n t =
-    let e = dropped_other b s (begins_other b s (grind arith)) in
-    grind (arith, clear_bit true (first_value (b ∷ s)) (take n (place_values s)) (dropped s))
+packed_tab b s n t = grind (arith, dropped_other, begins_other, clear_bit, first_value, place_values)
 
 packed_other : (b : ℕ) (s : List ℕ) (n : ℕ) → is_tab_or_newline b ≡ false → begins_with_escape (b ∷ s) ≡ false
     → packed_values (b ∷ s) (suc n) ≡ b ∷ packed_values s n
-packed_other b s n t h =
-    grind (
-      arith,
-      dropped_other b s h,
-      first_stays b s h,
-      clear_bit false (first_value (b ∷ s)) (take n (place_values s)) (dropped s),
-    )
+packed_other b s n t h = grind (arith, dropped_other, first_stays, clear_bit, first_value, place_values)
 
 packed_escape : (h l : ℕ) (s : List ℕ) (n : ℕ) → is_ascii_hexdigit h ≡ true → is_ascii_hexdigit l ≡ true
     → packed_values (37 ∷ h ∷ l ∷ s) (suc (suc (suc n))) ≡ (16 * digit_value h + digit_value l) ∷ packed_values s n
@@ -64,13 +45,10 @@ packed_escape h l s n p q =
     let vs = take n (place_values s) in
     let y = first_value (h ∷ l ∷ s) in
     let z = first_value (l ∷ s) in
-    grind (
-      arith,
-      dropped_escape h l s p q,
-      clear_bit false (first_value (37 ∷ h ∷ l ∷ s)) (y ∷ z ∷ vs) (1 + 2 * (1 + 2 * dropped s)),
-      clear_bit true y (z ∷ vs) (1 + 2 * dropped s),
-      clear_bit true z vs (dropped s),
-    )
+    let first = clear_bit false (first_value (37 ∷ h ∷ l ∷ s)) (y ∷ z ∷ vs) (1 + 2 * (1 + 2 * dropped s)) in
+    let second = clear_bit true y (z ∷ vs) (1 + 2 * dropped s) in
+    let third = clear_bit true z vs (dropped s) in
+    grind (arith, dropped_escape h l s p q)
 
 -- a body, byte by byte
 plain_passes : (b : ℕ) (s : List ℕ) → is_tab_or_newline b ≡ true → plain_body (b ∷ s) ≡ plain_body s
@@ -102,11 +80,12 @@ lone [] (c ∷ y) t u l o e = no_escape 37 [] (cleaned t) (lit< tt) (o (omega ar
 lone (c ∷ []) [] t u l o e = grind arith
 lone (c ∷ []) (d ∷ y) t u l o e =
     let f = free c (d ∷ y) 0 l in
-    grind (arith, cases_Bool (is_tab_or_newline c), cleaned_keeps c t, no_escape 37 (c ∷ []) (cleaned t) (lit< tt) (o (omega arith)))
+    let none = no_escape 37 (c ∷ []) (cleaned t) (lit< tt) (o (omega arith)) in
+    grind (arith, cases_Bool (is_tab_or_newline c), cleaned_keeps c t)
 lone (c ∷ d ∷ x) y t u l o e =
     let f = free c (d ∷ x ++ y) (suc (length x)) l in
     let g = free d (x ++ y) (length x) f.more in
-    grind (arith, cases_Bool (is_tab_or_newline c), cases_Bool (is_tab_or_newline d), cleaned_keeps c (d ∷ x ++ t), cleaned_keeps d (x ++ t))
+    grind (arith, cases_Bool (is_tab_or_newline c), cases_Bool (is_tab_or_newline d), cleaned_keeps)
 
 -- x is the front of a block, y the rest of it, and t the text after the front
 pub record IsFront (x y t : List ℕ) : Type 0 where
@@ -133,15 +112,9 @@ decodes_other b x y t h k e f w =
 decodes_escape : (h l : ℕ) (x y t : List ℕ) → is_ascii_hexdigit h ≡ true → is_ascii_hexdigit l ≡ true
     → Decodes x y t → Decodes (37 ∷ h ∷ l ∷ x) y t
 decodes_escape h l x y t p q w =
-    grind (
-      arith,
-      packed_escape h l (x ++ y) (length x) p q,
-      plain_escape h l (x ++ t) p q,
-      hex_other,
-      after_other 35 37 (h ∷ l ∷ (x ++ t)),
-      after_other 35 h (l ∷ (x ++ t)),
-      after_other 35 l (x ++ t),
-    )
+    let values = packed_escape h l (x ++ y) (length x) p q in
+    let body = plain_escape h l (x ++ t) p q in
+    grind (arith, hex_other, after_other)
 
 -- a byte at which no escape begins, or a tab or newline
 decodes_more : (b : ℕ) (x y t : List ℕ) → IsFront (b ∷ x) y t → begins_with_escape (b ∷ (x ++ y)) ≡ false

@@ -1,16 +1,11 @@
 -- The codes of hexadecimal digits in the lanes of a block, and the escapes that begin there. For `decode_escapes`.
-use Rattle.std.proofs.Common.{List, [], ◌∷◌, ◌++◌, map, ◌≡◌, ℕ, ◌<◌, ◌≤◌, ltb, true, false, cond, eqb, suc, leb}
-use Rattle.std.proofs.Common.{length, take, drop, w8, ap, ◌+◌, ◌*◌, ◌-◌, ◌%◌, ◌^◌, Bool, refl, sym, ◌∙◌, arith}
-use Rattle.std.proofs.Common.{bit_or, bit_and, ap₂, ◌&&◌, length-append, lit≤, Fits, replicate, not}
-use Rattle.std.specs.Char.{digit_value, is_ascii_hexdigit}
-use Rattle.std.proofs.lemmas.Bool.{agree_below_at, and_parts, cases_Bool, eqb-true, leb-true, ltb-true}
-use Rattle.std.proofs.lemmas.Simd.{mask_l-mod, pick_l-range_with_len, splat_is_map, tops_compared, zip2_of_maps}
-use Rattle.std.proofs.lemmas.Simd.{zip2_splat}
-use Rattle.std.proofs.lemmas.Nat.{le_or_l, le_or_r, or_lt}
-use Rattle.std.proofs.lemmas.List.{length-map}
-use Rattle.std.specs.List.{range_with_len}
-use Rattle.data_url.specs.Percent.{begins_with_escape}
-use Rattle.data_url.specs.Steps.Escapes.{escape_starts, first_value, place_values}
+use Rattle.std.proofs.Common.{Bool, Fits, List, ap, ap₂, arith, bit_and, bit_or, cond, drop, eqb, false, leb, length}
+use Rattle.std.proofs.Common.{length-append, lit≤, ltb, map, refl, replicate, suc, take, true, w8, [], ℕ, ◌%◌, ◌&&◌}
+use Rattle.std.proofs.{Common.{◌*◌, ◌++◌, ◌+◌, ◌-◌, ◌<◌, ◌^◌, ◌∙◌, ◌∷◌, ◌≡◌, ◌≤◌}, lemmas.Bool.{agree_below_at}}
+use Rattle.std.proofs.lemmas.{List.{length-map}, Nat.{le_or_l, le_or_r, or_lt}, Simd.{mask_l-mod}}
+use Rattle.std.proofs.lemmas.Simd.{pick_l-range_with_len, splat_is_map, tops_compared, zip2_of_maps, zip2_splat}
+use Rattle.std.specs.{Char.{digit_value, is_ascii_hexdigit}, List.{range_with_len}}
+use Rattle.data_url.specs.{Percent.{begins_with_escape}, Steps.Escapes.{escape_starts, first_value, place_values}}
 use lib.Lanes.{Each1, mask_l, pick_l, sel_l, top, zip2}
 
 -- Codes
@@ -66,8 +61,8 @@ by_test false value code h = grind arith
 
 code_is : (b : ℕ) → b < 256 → IsCodeOf (is_ascii_hexdigit b) (digit_value b) (code b)
 code_is b l = by_test (is_ascii_hexdigit b) (digit_value b) (code b)
-    (agree_below_at (λ b. cond (is_ascii_hexdigit b) (eqb (code b) (digit_value b) && ltb (code b) 16) (leb 16 (code b)))
-    (λ b. true) 256 b refl l)
+    (agree_below_at (λ b. cond (is_ascii_hexdigit b) (eqb (code b) (digit_value b) && ltb (code b) 16)
+    (leb 16 (code b))) (λ b. true) 256 b refl l)
 
 -- lanes that are chosen from two vectors that were computed from vs
 chosen_of : {V : Type 0} (t : V → Bool) (f g : V → ℕ) (vs : List V)
@@ -203,7 +198,8 @@ shifted : (v : List ℕ) (k : ℕ) → length v ≡ 64 → k ≤ 2
 shifted v k long few =
     let e = codes_are v long in
     let size = length-append (map code v) (replicate 64 255) in
-    rw (e, long) (pick_l-range_with_len 0 (map code v ++ replicate 64 255) k 64 (omega (arith, size, few, length-map v code, long)))
+    rw (e, long) (pick_l-range_with_len 0 (map code v ++ replicate 64 255) k 64
+    (omega (arith, size, few, length-map v code, long)))
 
 -- the bits of the lanes at which an escape begins
 abbrev pub start_lanes : List ℕ → List Bool
@@ -218,7 +214,8 @@ starts_computed v long =
     let splat = λ (n : ℕ). splat_is_map {Y = ℕ} ts 64 n (length-tails v ∙ long) in
     let high_is = shifted v 1 long (lit≤ tt) ∙ highs_are v (replicate 63 255) in
     let low_is = shifted v 2 long (lit≤ tt) ∙ lows_are v (replicate 62 255) in
-    let percent = tops_compared w8 eqb v (replicate 64 37) ∙ zip2_of_maps eqb head (λ _. 37) ts (heads_are v) (splat 37) in
+    let percent = tops_compared w8 eqb v (replicate 64 37)
+    ∙ zip2_of_maps eqb head (λ _. 37) ts (heads_are v) (splat 37) in
     let both = zip2_of_maps bit_or high low ts high_is low_is in
     let codes = chosen (λ s. eqb (head s) 37) (λ s. bit_or (high s) (low s)) (λ _. 255) ts percent both (splat 255) in
     tops_compared w8 ltb _ (replicate 64 16) ∙ zip2_of_maps ltb _ (λ _. 16) ts codes (splat 16)

@@ -1,21 +1,14 @@
 -- What a walk gathers from a block whose bytes before the first stop are packed. For `pack_whole` and `pack_end`.
-use Rattle.std.proofs.Common.{List, [], ◌∷◌, ◌++◌, map, ◌≡◌, ℕ, ◌<◌, ◌≤◌, true, false, suc, zero, min, not, ap₂}
-use Rattle.std.proofs.Common.{length, take, drop, ap, ◌+◌, ◌-◌, refl, sym, ◌∙◌, arith, append-nil, length-append, replicate}
-use Rattle.std.proofs.Common.{◌==◌, length-take-le, take_all, slice_range, take-append-drop, lit≤}
-use Rattle.std.specs.{Char.{is_ascii_hexdigit}, List.{prefix_len}}
-use Rattle.std.proofs.Common.{Bool, ◌||◌, ◌&&◌, inl, inr}
-use Rattle.std.proofs.lemmas.Bool.{cases_Bool}
-use Rattle.std.proofs.lemmas.List.{drop-drop, length-drop, take-append-le, length-replicate}
-use Rattle.data_url.specs.{Fetch.{plain_body}, Steps.Walk.{Gathers, IsBlock, IsWhole, Looking, Packs, Reads}}
-use Rattle.data_url.specs.{Pieces.{text_of}, declared.escapes.cursor.Cursor.{Cursor}}
-use Rattle.data_url.specs.{Steps.Digits.{cleaned}, Steps.Window.{is_marked}, Url.{after, is_tab_or_newline}}
-use Rattle.data_url.specs.Steps.{Escapes.{IsPacked, is_unsure, packed_values, stops}, Looks.{paid}, Walk.{LooksOn}}
-use Rattle.data_url.specs.declared.{escapes.source.Source.{Source}, escapes.stops.Block.{Block}}
-use Rattle.data_url.proofs.escapes.BlockMarks.{marks_padded}
-use Rattle.data_url.proofs.escapes.EscapeDigits.{begins_with_digit, cleaned_nil, other_first}
-use Rattle.data_url.proofs.escapes.Fronts.{Decodes, IsFront, decodes}
-use Rattle.data_url.proofs.escapes.Reading.{paid_on}
-use lib.Lanes.{mask_l}
+use Rattle.std.proofs.Common.{Bool, List, ap, arith, drop, false, inl, inr, length, length-append, length-take-le, min}
+use Rattle.std.proofs.Common.{not, refl, replicate, suc, take, take-append-drop, true, zero, [], ℕ, ◌&&◌, ◌++◌, ◌+◌}
+use Rattle.std.proofs.{Common.{◌-◌, ◌<◌, ◌==◌, ◌||◌, ◌∷◌, ◌≡◌, ◌≤◌}, lemmas.Bool.{cases_Bool}, lemmas.List.{drop-drop}}
+use Rattle.std.{proofs.lemmas.List.{length-drop, take-append-le}, specs.Char.{is_ascii_hexdigit}}
+use Rattle.std.specs.List.{prefix_len}
+use Rattle.data_url.proofs.escapes.{EscapeDigits.{begins_with_digit, cleaned_nil, other_first}, Fronts.{decodes}}
+use Rattle.data_url.{proofs.escapes.Reading.{paid_on}, specs.Pieces.{text_of}, specs.Steps.Digits.{cleaned}}
+use Rattle.data_url.specs.Steps.{Escapes.{IsPacked, is_unsure, packed_values, stops}, Walk.{Looking, LooksOn, Packs}}
+use Rattle.data_url.specs.{Url.{is_tab_or_newline}, declared.escapes.cursor.Cursor.{Cursor}}
+use Rattle.data_url.specs.declared.escapes.{marks.Block.{Block}, source.Source.{Source}}
 
 -- a byte at which a stop is, is no tab or newline and no digit
 stop_byte : (b : ℕ) (u : Bool) → ((b == 35) || ((b == 37) && u)) ≡ true
@@ -71,11 +64,14 @@ packs_front {c} {c'} {room} {room'} {v} {len} {used} {end} {size} z r k vs ss cu
     }) in
     let bytes = packed_values v used in
     let same : packed_values (x ++ y) (length x) ≡ bytes = rw (joined, size_x) refl in
+    let front = take-append-le used z (replicate k 0) (omega arith) in
     let whole : x ++ t ≡ drop c.place text =
-    cc (take-append-le used z (replicate k 0) (omega arith), take-append-le used z r (omega arith), take-append-drop used (z ++ r)) in
+    cc (take-append-le used z r (omega arith), take-append-drop used (z ++ r)) in
     let after_is : t ≡ drop (c.place + used) text = cc (drop-drop used c.place text) in
     let long_text : used ≤ length text - c.place =
     omega (arith, ap length cut, length-append z r, length-drop c.place text) in
+    let before = length-take-le len room (omega arith) in
+    let after = length-take-le end room' (omega (arith, p.short)) in
     record {
       gathers = record {
         bytes = bytes;
@@ -87,27 +83,11 @@ packs_front {c} {c'} {room} {room'} {v} {len} {used} {end} {size} z r k vs ss cu
           after_is = cc (w.after_is, whole);
         };
         room_is = p.room_is;
-        len_is = omega (
-          arith,
-          ap length p.room_is,
-          length-append (take len room) bytes,
-          p.short,
-          length-take-le len room (omega arith),
-          length-take-le end room' (omega (arith, p.short)),
-        );
+        len_is = omega (arith, ap length p.room_is, length-append (take len room) bytes, before, after, p.short);
       };
       few = omega (arith, p.short);
       moves = omega (arith, p.some);
     }
-
--- when the last bytes of a text are read, the walk can go on there
-pub looking_rest : {s s' : Source} {b : Block} {place marks : ℕ} (rest : List ℕ) → Looking s b place 0 → b.seen ≤ place
-    → s'.text.now ≡ s.text.now → length s.text.now < place + 64 → rest ≡ drop place s.text.now
-    → marks ≡ mask_l (map is_marked rest) → s'.looks + place ≡ s.looks + length s.text.now
-    → Looking s' (record { base = place; seen = place + length rest; marks = marks }) place 0
-looking_rest {s} {s'} {b} {place} {marks} rest k l t few is m n =
-    let width : place + length rest - place ≡ length rest = omega arith in
-    grind (arith, length-drop place s.text.now, take_all (length rest) rest (omega arith))
 
 -- after bytes that were packed, the walk can go on in a block without bytes, if what is left of its block is not longer
 pub looking_again : {s : Source} {b : Block} {place used : ℕ} → Looking s b place 0 → place + used ≤ b.seen

@@ -1,22 +1,18 @@
--- What a walk reads between two places of its text, and the bound on how many bytes it reads. For `stop_at`.
-use Rattle.std.proofs.Common.{List, [], ◌∷◌, ◌++◌, length, drop, get_or, refl, ap, ◌∙◌, arith}
-use Rattle.std.proofs.Common.{◌==◌, slice_range}
-use Rattle.std.proofs.Common.{take, append_assoc, length-append}
-use Rattle.std.proofs.Common.{◌≡◌, ℕ, zero, suc, ◌+◌, ◌*◌, ◌-◌, ◌<◌, ◌≤◌, true, false, cond}
-use Rattle.std.{specs.Char.{digit_value}}
-use Rattle.std.proofs.lemmas.List.Sums.{prefix_len-drop_no, prefix_len-le-length}
-use Rattle.std.proofs.lemmas.List.Sums.{count_by-le-length, length-filter}
-use Rattle.data_url.specs.{Fetch.{plain_body}, Percent.{begins_with_escape, percent_decoding}, Pieces.{is_slice_end}}
-use Rattle.data_url.specs.Steps.Digits.{EscapeAt, NoEscape, cleaned}
-use Rattle.data_url.specs.{Steps.Looks.{before_percent, paid}, Steps.Tail.{BeginsFragment}, Steps.Window.{is_marked}}
-use Rattle.data_url.specs.Steps.Walk.{IsClear, IsStop, Reads, Spells}
-use Rattle.data_url.specs.Url.{front, is_tab_or_newline, before, without_tabs_and_newlines}
-use Rattle.data_url.specs.declared.escapes.stops.Stop.TheVariants.{Passed, Stays}
-use Rattle.data_url.proofs.{percent.Encoding.{decoded_escape}, texts.Bytes.{after_other}}
-pub use Rattle.std.proofs.lemmas.List.{drop_more, get_or-drop, length-drop, drop-drop, drop_all, drop-take, length-take}
+-- What a walk reads between two places of its text, and the bound on how many bytes it reads. For `at_mark`.
+use Rattle.std.proofs.Common.{List, ap, append_assoc, arith, cond, drop, false, get_or, length, length-append, refl}
+use Rattle.std.proofs.Common.{slice_range, suc, take, true, zero, [], ℕ, ◌*◌, ◌++◌, ◌+◌, ◌-◌, ◌<◌, ◌==◌, ◌∙◌, ◌∷◌, ◌≡◌}
+use Rattle.std.proofs.{Common.{◌≤◌}, lemmas.List.Sums.{count_by-le-length, length-filter, prefix_len-drop_no}}
+use Rattle.std.{proofs.lemmas.List.Sums.{prefix_len-le-length}, specs.Char.{digit_value}}
 use Rattle.data_url.proofs.escapes.EscapeDigits.{begins_other, cleaned_hash, cleaned_keeps, cleaned_nil, cleaned_passes}
+use Rattle.data_url.proofs.{percent.Encoding.{decoded_escape}, texts.Bytes.{after_other}}
+use Rattle.data_url.specs.{Fetch.{plain_body}, Percent.{begins_with_escape, percent_decoding}, Pieces.{is_slice_end}}
+use Rattle.data_url.specs.Steps.{Digits.{EscapeAt, NoEscape, cleaned}, Looks.{before_percent, paid}}
+use Rattle.data_url.specs.Steps.{Tail.{BeginsFragment}, Walk.{IsAtMark, IsClear, Reads, Spells}, Window.{is_marked}}
+use Rattle.data_url.specs.Url.{before, front, is_tab_or_newline, without_tabs_and_newlines}
+use Rattle.data_url.specs.declared.escapes.marks.AtMark.TheVariants.{Passed, Stays}
+pub use Rattle.std.proofs.lemmas.List.{drop-drop, drop-take, drop_all, drop_more, get_or-drop, length-drop, length-take}
 
--- What a walk reads between two places of its text, and the bound on how many bytes it reads. For `stop_at`.
+-- What a walk reads between two places of its text, and the bound on how many bytes it reads. For `at_mark`.
 
 -- a body is the percent-decoded cleaned tail
 pub plain_is : (s : List ℕ) → plain_body s ≡ percent_decoding (cleaned s)
@@ -160,13 +156,13 @@ pub paid_percent : (text : List ℕ) (place : ℕ) → place < length text → g
 paid_percent text place l h = grind (arith, prefix_len-drop_no)
 
 -- a '%' without an escape stays, and pays for the bytes that were read after it
-pub stop_percent : {text : List ℕ} {place looks looks' : ℕ} → place < length text → get_or text place 0 ≡ 37
-    → NoEscape text place (looks + 1) looks' → IsStop text place looks looks' Stays
-stop_percent {text} {place} {looks} {looks'} l h n = search (arith, paid_percent, spells_percent)
+pub at_percent : {text : List ℕ} {place looks looks' : ℕ} → place < length text → get_or text place 0 ≡ 37
+    → NoEscape text place (looks + 1) looks' → IsAtMark text place looks looks' Stays
+at_percent {text} {place} {looks} {looks'} l h n = search (arith, paid_percent, spells_percent)
 
 -- a tab or newline is passed, and pays for one look
-pub stop_passed : (text : List ℕ) (place looks : ℕ) → place < length text
-    → is_tab_or_newline (get_or text place 0) ≡ true → IsStop text place looks (looks + 1) Passed
-stop_passed text place looks l h =
+pub at_tab : (text : List ℕ) (place looks : ℕ) → place < length text
+    → is_tab_or_newline (get_or text place 0) ≡ true → IsAtMark text place looks (looks + 1) Passed
+at_tab text place looks l h =
     let p = paid_on text place (place + 1) (omega arith) in
     (grind (arith, drop_more), spells_passed text place l h, grind arith)

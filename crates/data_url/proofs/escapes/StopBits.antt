@@ -1,20 +1,14 @@
 -- The bits of the stops of a block. For `stops_of` and `pack_to_stop`.
-use Rattle.std.proofs.Common.{List, [], ◌∷◌, map, ◌≡◌, ℕ, ◌<◌, ◌≤◌, true, false, cond, eqb, suc, zero, map-id}
-use Rattle.std.proofs.Common.{length, take, ap, ◌+◌, ◌*◌, ◌-◌, ◌%◌, ◌^◌, Bool, refl, sym, ◌∙◌, arith, drop}
-use Rattle.std.proofs.Common.{bit_or, ap₂, not, ◌&&◌, ◌/◌, ◌==◌, ◌||◌, bit_and, Fits, w64, lit<, lit≤, w8, replicate}
-use Rattle.std.proofs.lemmas.Bool.{cases_Bool, eqb-true, and_parts}
-use Rattle.std.proofs.lemmas.Nat.{and_mod, and_shr, or_mod, or_shr}
-use Rattle.std.proofs.Math.Nat.{pow-succ'}
-use Rattle.std.proofs.lemmas.Nat.{Bits.{ones_shr}, pow_pos}
-use Rattle.std.proofs.lemmas.Simd.{bitmask_splat, leading_from_mask_l, mask_l-lt, trailing_mask_l}
-use Rattle.std.specs.{Int.Count.{count_trailing_zeros}, List.{prefix_len}}
-use Rattle.std.specs.Char.{is_ascii_hexdigit}
-use Rattle.data_url.specs.Percent.{begins_with_escape}
+use Rattle.std.proofs.Common.{Bool, Fits, List, ap, arith, bit_and, bit_or, cond, drop, eqb, false, length, lit<, lit≤}
+use Rattle.std.proofs.Common.{map, map-id, not, refl, replicate, suc, take, true, w64, w8, zero, [], ℕ, ◌%◌, ◌&&◌, ◌*◌}
+use Rattle.std.proofs.{Common.{◌+◌, ◌-◌, ◌/◌, ◌<◌, ◌==◌, ◌^◌, ◌||◌, ◌∙◌, ◌∷◌, ◌≡◌, ◌≤◌}, Math.Nat.{pow-succ'}}
+use Rattle.std.proofs.lemmas.{Bool.{and_parts, cases_Bool, eqb-true}, Nat.{and_mod, and_shr, or_mod, or_shr, pow_pos}}
+use Rattle.std.proofs.lemmas.{Nat.Bits.{ones_shr}, Simd.{bitmask_splat, leading_from_mask_l, mask_l-lt}}
+use Rattle.std.{proofs.lemmas.Simd.{trailing_mask_l}, specs.Int.Count.{count_trailing_zeros}, specs.List.{prefix_len}}
+use Rattle.data_url.proofs.escapes.{EscapeDigits.{begins_other}, Fronts.{dropped, dropped_escape, dropped_other}}
+use Rattle.data_url.{proofs.escapes.Fronts.{first_stays}, specs.Percent.{begins_with_escape}}
+use Rattle.data_url.specs.Steps.{Escapes.{escape_starts, is_unsure, packed_values, place_values, stops}, Groups.{clear}}
 use Rattle.data_url.specs.{Steps.Window.{is_marked}, Url.{is_tab_or_newline}}
-use Rattle.data_url.specs.Steps.Escapes.{escape_starts, first_value, is_unsure, packed_values, place_values, stops}
-use Rattle.data_url.specs.Steps.Groups.{clear}
-use Rattle.data_url.proofs.escapes.EscapeDigits.{begins_other}
-use Rattle.data_url.proofs.escapes.Fronts.{dropped, dropped_escape, dropped_other, first_stays}
 use lib.Lanes.{mask_l, top, zip2}
 
 -- the bits of the '%', of the '#', and of the tabs and newlines of a text
@@ -109,24 +103,14 @@ near_first : (b : ℕ) (s : List ℕ) → nears (b ∷ s) % 2 ≡ cond ((b == 37
 near_first b s =
     let half = half_mask (is_tab_or_newline b) (tabs s) in
     let quarter : tabs (b ∷ s) / 4 ≡ tabs s / 2 = omega (arith, half) in
-    cc (
-      near_last (percents (b ∷ s)) (tabs (b ∷ s)) (late (b ∷ s)),
-      last_bit (b == 37) (percents s),
-      first_is s,
-      second_is s,
-      last_bit (is_late s) (late s),
-      near_bit (b == 37) (first_passes s) (first_passes (drop 1 s)) (is_late s),
-      unsure_is s,
-    )
+    let last = near_last (percents (b ∷ s)) (tabs (b ∷ s)) (late (b ∷ s)) in
+    let bit = near_bit (b == 37) (first_passes s) (first_passes (drop 1 s)) (is_late s) in
+    cc (last_bit (b == 37) (percents s), last_bit (is_late s) (late s), first_is s, second_is s, unsure_is s)
 
 near_more : (b : ℕ) (s : List ℕ) → nears (b ∷ s) / 2 ≡ nears s
 near_more b s =
-    cc (
-      near_half (percents (b ∷ s)) (tabs (b ∷ s)) (late (b ∷ s)),
-      half_mask (b == 37) (percents s),
-      half_mask (is_tab_or_newline b) (tabs s),
-      half_mask (is_late s) (late s),
-    )
+    let half = near_half (percents (b ∷ s)) (tabs (b ∷ s)) (late (b ∷ s)) in
+    cc (half_mask (b == 37) (percents s), half_mask (is_tab_or_newline b) (tabs s), half_mask (is_late s) (late s))
 
 -- a byte is not both '#' and '%'
 stop_bit : (b : ℕ) (x : Bool) → cond ((b == 35) || ((b == 37) && x)) 1 0
@@ -181,23 +165,17 @@ none_start (b ∷ s) pcts p n =
     grind (arith, cases_Bool (b == 37), begins_other b s, first_stays b s, none_start s (percents s) refl)
 
 -- the bits of the bytes that are dropped are as many as the bytes
-pub dropped_few : (s : List ℕ) → dropped s < 2 ^ length s
+dropped_few : (s : List ℕ) → dropped s < 2 ^ length s
 dropped_few [] = lit< tt
 dropped_few (a ∷ []) = grind (arith, dropped_other a [], cases_Bool (is_tab_or_newline a))
-dropped_few (a ∷ b ∷ []) = grind (arith, dropped_other a (b ∷ []), cases_Bool (is_tab_or_newline a), dropped_few (b ∷ []))
+dropped_few (a ∷ b ∷ []) =
+    grind (arith, dropped_other a (b ∷ []), cases_Bool (is_tab_or_newline a), dropped_few (b ∷ []))
 dropped_few (a ∷ b ∷ c ∷ s) =
-    grind (
-      arith,
-      cases_Bool (begins_with_escape (a ∷ b ∷ c ∷ s)),
-      and_parts,
-      eqb-true a 37,
-      dropped_escape b c s,
-      dropped_few s,
-      dropped_other a (b ∷ c ∷ s),
-      cases_Bool (is_tab_or_newline a),
-      dropped_few (b ∷ c ∷ s),
-      pow-succ',
-    )
+    let few = dropped_few s in
+    let more = dropped_few (b ∷ c ∷ s) in
+    let begins = cases_Bool (begins_with_escape (a ∷ b ∷ c ∷ s)) in
+    let tab = cases_Bool (is_tab_or_newline a) in
+    grind (arith, and_parts, eqb-true a 37, dropped_escape b c s, dropped_other, pow-succ')
 
 -- the items whose bits are 0, if all bits after the first ones are set
 clear_front : (xs : List ℕ) (m used : ℕ) → used ≤ length xs
@@ -230,3 +208,10 @@ front_put v values begin ts used long l vs ss t =
     let high : 2 ^ 64 - 1 - (2 ^ 64 - 1) / 2 ^ (64 - used) ≡ 2 ^ length values - 2 ^ used =
     omega (arith, ones, ap (λ n. 2 ^ n) width, ap (λ n. 2 ^ n) size, pow_pos used) in
     cc (clear_front values (6 * begin + ts) used (omega arith))
+
+-- the bits of the bytes that are dropped of a block fit a number of 64 bits
+pub dropped_fits : (s : List ℕ) → length s ≡ 64 → 6 * mask_l (escape_starts s) + tabs s < 2 ^ 64
+dropped_fits s long = omega (arith, dropped_few s, ap (λ n. 2 ^ n) long)
+
+-- the lemmas for `stops_of` and `pack_to_stop`
+pub ruleset stop_bits = (dropped_fits, marks_are, no_stops)

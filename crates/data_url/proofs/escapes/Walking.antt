@@ -24,7 +24,7 @@ use Rattle.data_url.specs.Steps.Walk.{Looking, LooksOn, MayGather, Moves, Pays, 
 use Rattle.data_url.specs.{Url.{before, after, front, without_tabs_and_newlines}, declared.escapes.cursor.Ahead.{Ahead}}
 use Rattle.data_url.specs.{declared.escapes.Piece.TheVariants.{Byte, Slice}, declared.escapes.cursor.Cursor.{Cursor}}
 use Rattle.data_url.specs.declared.escapes.cursor.Ahead.TheVariants.{AfterEscape, End, Escape, Unknown}
-use Rattle.data_url.specs.{declared.escapes.source.Source.{Source}, declared.escapes.stops.Block.{Block}}
+use Rattle.data_url.specs.{declared.escapes.source.Source.{Source}, declared.escapes.marks.Block.{Block}}
 use Rattle.data_url.proofs.escapes.BlockMarks.{copied_wide, looking_on, marks_padded, padded_is}
 use Rattle.data_url.proofs.escapes.Reading.{ends_empty, paid_le, paid_on}
 use Rattle.data_url.proofs.escapes.Reading.{percent_nil, spells_clear, spells_escape, spells_none, spells_then}

@@ -1,26 +1,16 @@
 -- The bytes of a row that are kept. For `packing.rt`.
-use Rattle.std.proofs.Common.{lit<, List, [], ◌∷◌, ◌++◌, map, ◌≡◌, ℕ, ◌<◌, ◌≤◌, ltb, true, get_or, suc, zero}
-use Rattle.std.proofs.Common.{length-take-le, length, take, drop, w8, ap, ◌+◌, ◌*◌, ◌-◌, length-drop}
-use Rattle.std.proofs.Common.{◌/◌, ◌%◌, ◌^◌, Bool, refl, sym, ◌∙◌, arith, ◌&&◌, take-take, take-append-drop, take_all}
-use Rattle.std.proofs.Common.{append_assoc, drop-drop, lit≤, replicate}
-use Rattle.std.proofs.lemmas.Bool.{agree_below_at, and_parts, ltb-true}
-use Rattle.std.proofs.lemmas.Simd.{SwzOk, SwzOk-from_below, pick_l-range_with_len, pick_l_left, swz_l}
-use Rattle.std.proofs.lemmas.Simd.{Each1-weaker, take_more_put_chunk, zip2_splat}
-use Rattle.std.specs.Int.RustNames.{count_ones}
-use Rattle.std.specs.List.{range_with_len}
-use Rattle.std.proofs.Math.Nat.{pow-suc}
-use Rattle.std.proofs.lemmas.Nat.{pow_pos}
-use Rattle.std.proofs.Math.Arith.{mod-mul}
-use Rattle.std.proofs.lemmas.List.{length-map, take-map}
-use Rattle.std.proofs.Math.Seq.{take-append-add}
-use lib.Dec.{T}
-use lib.Lanes.{Each1, all_below, pick_l, zip2}
-use Rattle.data_url.specs.Steps.Groups.{clear}
-use Rattle.data_url.specs.declared.packing.TheConstants.{PLACES}
-use Rattle.std.proofs.Common.{ext_get_or}
-use Rattle.std.proofs.lemmas.List.{get_or-map}
-use Rattle.std.proofs.lemmas.Simd.{Each1-get_or, get_or-swz_l_below, length-swz_l}
+use Rattle.std.proofs.Common.{Bool, List, ap, append_assoc, arith, drop, drop-drop, get_or, length, length-drop}
+use Rattle.std.proofs.Common.{length-take-le, lit<, ltb, map, refl, replicate, suc, sym, take, take-append-drop}
+use Rattle.std.proofs.Common.{take-take, take_all, true, w8, zero, [], ℕ, ◌%◌, ◌&&◌, ◌*◌, ◌++◌, ◌+◌, ◌-◌, ◌/◌, ◌<◌, ◌^◌}
+use Rattle.std.proofs.{Common.{◌∙◌, ◌∷◌, ◌≡◌, ◌≤◌}, Math.Arith.{mod-mul}, Math.Nat.{pow-suc}}
+use Rattle.std.proofs.{Math.Seq.{take-append-add}, lemmas.Bool.{agree_below_at, and_parts, ltb-true}}
+use Rattle.std.proofs.lemmas.{List.{length-map, take-map}, Nat.{pow_pos}, Simd.{Each1-get_or, Each1-weaker, SwzOk}}
+use Rattle.std.proofs.lemmas.Simd.{SwzOk-from_below, get_or-swz_l_below, length-swz_l, pick_l-range_with_len}
+use Rattle.std.proofs.lemmas.Simd.{pick_l_left, swz_l, take_more_put_chunk, zip2_splat}
+use Rattle.std.specs.{Int.RustNames.{count_ones}, List.{range_with_len}}
 use Rattle.data_url.proofs.forgiving_base64.Spaces.{alike, alike_same, clear_append, clear_map}
+use Rattle.data_url.specs.{Steps.Groups.{clear}, declared.packing.TheConstants.{PLACES}}
+use lib.{Dec.{T}, Lanes.{Each1, all_below, pick_l, zip2}}
 
 -- for at most 16 indices below 16, a swizzle looks up the item at each index
 looked_at : (t js : List ℕ) (i : ℕ) → i + length js ≤ 16 → Each1 (λ j. j < 16) js
@@ -126,15 +116,10 @@ half_packed v old new {ps} {from} {few} {bits} at long start l a within put =
     let cut : map look (range_with_len from 8) ≡ take 8 (drop from v) =
     pick_l-range_with_len 0 v from 8 (omega (arith, long)) in
     let size = length-take-le at old within in
-    cc (
-      take-take (at + few) (at + 16) new (omega (arith, l)),
-      take-append-add (take at old) (swz_l w8 16 v 0 ps) few,
-      looked_at v ps 0 (omega (arith, a.long)) a.small,
-      take-map look few ps,
-      a.are,
-      clear_map look (range_with_len from 8) bits,
-      cut,
-    )
+    let looked = looked_at v ps 0 (omega (arith, a.long)) a.small in
+    let joined = take-append-add (take at old) (swz_l w8 16 v 0 ps) few in
+    let fewer = take-take (at + few) (at + 16) new (omega (arith, l)) in
+    cc (take-map look few ps, clear_map look (range_with_len from 8) bits)
 
 -- a row is packed half by half
 pub row_packed : (v old middle new : List ℕ) (at few more dropped : ℕ) → length v ≡ 16
@@ -164,15 +149,11 @@ rows_are v r0 r1 r2 r3 m long p q r s =
     let two : m / 2 ^ 16 / 2 ^ 16 ≡ m / 2 ^ 32 = omega arith in
     let three : m / 2 ^ 32 / 2 ^ 16 ≡ m / 2 ^ 48 = omega arith in
     let room = λ (k : ℕ). length-drop k v in
-    let last = take_all 16 (drop 48 v) (omega (arith, room 48, long)) in
-    cc (
-      clear_parts 16 v m (omega (arith, long)),
-      clear_parts 16 (drop 16 v) (m / 2 ^ 16) (omega (arith, room 16, long)),
-      clear_parts 16 (drop 32 v) (m / 2 ^ 32) (omega (arith, room 32, long)),
-      clear_low (drop 48 v) 16 (m / 2 ^ 48) (omega (arith, room 48, long)),
-      drop-drop 16 16 v,
-      drop-drop 16 32 v,
-    )
+    let first = clear_parts 16 v m (omega (arith, long)) in
+    let second = clear_parts 16 (drop 16 v) (m / 2 ^ 16) (omega (arith, room 16, long)) in
+    let third = clear_parts 16 (drop 32 v) (m / 2 ^ 32) (omega (arith, room 32, long)) in
+    let low = clear_low (drop 48 v) 16 (m / 2 ^ 48) (omega (arith, room 48, long)) in
+    cc (drop-drop 16 16 v, drop-drop 16 32 v, take_all 16 (drop 48 v) (omega (arith, room 48, long)))
 
 -- four parts that are appended one after another
 four_parts : (a b c d e r0 r1 r2 r3 : List ℕ) → b ≡ a ++ r0 → c ≡ b ++ r1 → d ≡ c ++ r2 → e ≡ d ++ r3
@@ -187,9 +168,7 @@ pub rows_packed : (v b0 b1 b2 b3 b4 : List ℕ) (dropped at e1 e2 e3 e4 : ℕ) �
     → take e4 b4 ≡ take e3 b3 ++ clear (extracted 48 v) (dropped / 2 ^ 48 % 65536)
     → take e4 b4 ≡ take at b0 ++ clear v dropped
 rows_packed v b0 b1 b2 b3 b4 dropped at e1 e2 e3 e4 long p q r s =
-    let row = λ (k : ℕ) (l : k + 16 ≤ 64) (below : T (all_below 64 (range_with_len k 16))). extracted_is v k long l below in
-    four_parts _ _ _ _ _ _ _ _ _ p q r s ∙ ap (λ t. take at b0 ++ t) (sym (rows_are v _ _ _ _ dropped long
-    (row 0 (lit≤ tt) tt) (row 16 (lit≤ tt) tt) (row 32 (lit≤ tt) tt) (row 48 (lit≤ tt) tt)))
+    grind (arith, extracted_is, four_parts, rows_are)
 
 -- the lemmas for `packing.rt`
 pub ruleset packing = (take_more_put_chunk)

@@ -7,8 +7,8 @@ ghost use Rattle.data_url.specs.{Pieces.{text_of, walk_at_start, walk_of}, Steps
 ghost use Rattle.data_url.specs.Steps.Walk.{GoesOn, Knows, KnowsAhead, Looking};
 
 use super::Piece;
+use super::marks::{AtMark, Block};
 use super::source::Source;
-use super::stops::{Block, Stop};
 
 /// How many bytes an escape has, without tabs and newlines.
 pub(super) const ESCAPE: usize = 3;
@@ -116,9 +116,9 @@ impl<'a> Cursor<'a> {
             let mark = self.block.next_mark(&mut self.source, from);
             let place = self.place;
             let slice = self.source.cut(place, mark);
-            match self.source.stop_at(mark, false) {
-                Stop::Stays => from = mark + 1,
-                Stop::Passed => {
+            match self.source.at_mark(mark, false) {
+                AtMark::Stays => from = mark + 1,
+                AtMark::Passed => {
                     from = mark + 1;
                     self.place = from;
                     if place < mark {
@@ -126,17 +126,17 @@ impl<'a> Cursor<'a> {
                         return Some(Piece::Slice(slice));
                     }
                 }
-                Stop::Escape(value, end) if mark == place => {
+                AtMark::Escape(value, end) if mark == place => {
                     self.place = end;
                     self.ahead = Ahead::AfterEscape;
                     return Some(Piece::Byte(value));
                 }
-                Stop::Escape(value, end) => {
+                AtMark::Escape(value, end) => {
                     self.place = mark;
                     self.ahead = Ahead::Escape(value, end);
                     return Some(Piece::Slice(slice));
                 }
-                Stop::End => {
+                AtMark::End => {
                     self.place = mark;
                     self.ahead = Ahead::End;
                     if mark == place {

@@ -3,8 +3,7 @@
 #![tactic(auto, using(crate::proofs::escapes::EscapeDigits::digits))]
 
 ghost use Rattle.std.specs.Prelude.{IsTrue, ◌≡◌, ◌+◌, ◌<◌, ◌≤◌, MatchOption, drop, false, length, slice_index};
-ghost use Rattle.data_url.specs.{Percent.{begins_with_escape}, Url.{percent_sign}};
-ghost use Rattle.data_url.specs.Steps.Digits.{EscapeAt, IsCode, IsDigitFrom, NoEscape};
+ghost use Rattle.data_url.specs.{Percent.{begins_with_escape}, Steps.Digits.{EscapeAt, IsCode, IsDigitFrom, NoEscape}, Url.{percent_sign}};
 
 use super::source::Source;
 use std::mem::replace;

@@ -93,6 +93,7 @@ const LAST_TWO: u64 = 3 << 62;
 /// a `#`, and a `%` that has a tab or newline in the two bytes after it or is one of the last two bytes. `marks` has a bit for
 /// each mark, and `percents` one for each `%`.
 #[inline(always)]
+#[tactic(auto, using(crate::proofs::escapes::StopBits::stop_bits))]
 pub(super) fn stops_of(bytes: u8x64, marks: u64, percents: u64) -> (u64, u64)
     requires marks { marks ≡ mask_l (map is_marked bytes) }
     requires percents { percents ≡ mask_l (map (λ b. b == percent_sign) bytes) }

@@ -8,7 +8,7 @@ ghost use Rattle.data_url.specs.Steps.Walk.{Knows, KnowsAhead};
 
 use super::cursor::{Ahead, Cursor};
 use super::lanes::{BLOCK, marks_of, may_stop};
-use super::stops::{Block, Stop};
+use super::marks::{AtMark, Block};
 
 /// How many whole blocks a stretch goes over at most. With a part of a block before and after them it has at most 4,096 bytes. So
 /// a fault is found before much more of the text is read.
@@ -88,14 +88,14 @@ impl<'a> Cursor<'a> {
                 self.place = self.block.seen;
                 return;
             };
-            match self.source.stop_at(mark, false) {
-                Stop::Stays | Stop::Passed => self.place = mark + 1,
-                Stop::Escape(value, end) => {
+            match self.source.at_mark(mark, false) {
+                AtMark::Stays | AtMark::Passed => self.place = mark + 1,
+                AtMark::Escape(value, end) => {
                     self.place = mark;
                     self.ahead = Ahead::Escape(value, end);
                     return;
                 }
-                Stop::End => {
+                AtMark::End => {
                     self.place = mark;
                     self.ahead = Ahead::End;
                     return;

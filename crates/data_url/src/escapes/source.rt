@@ -7,10 +7,10 @@ ghost use Rattle.std.specs.{Option.{option_map}, Simd.Lanes.{mask_l}};
 ghost use Rattle.data_url.specs.Steps.{Tail.{IsBodyEnd}, Walk.{IsBlock, Looking}, Window.{is_marked}};
 ghost use Rattle.data_url.specs.Url.{after, number_sign};
 
-use super::gather::BUFFER_LEN;
+use super::gather::Buffer;
 use super::lanes::{BLOCK, marks_of};
 use super::looks::Looks;
-use super::stops::Block;
+use super::marks::Block;
 use std::simd::prelude::*;
 
 /// A text with a count of the bytes examined.
@@ -117,14 +117,7 @@ impl<'a> Source<'a> {
     /// Copies a stretch of at most 64 bytes into a buffer. None of its bytes is examined. The bytes after it in the
     /// buffer may be overwritten.
     #[inline(always)]
-    pub(super) fn copy(
-        &self,
-        start: usize,
-        end: usize,
-        room: &mut [u8; BUFFER_LEN],
-        len: usize,
-        wide: bool,
-    )
+    pub(super) fn copy(&self, start: usize, end: usize, room: &mut Buffer, len: usize, wide: bool)
         requires forward { start ≤ end }
         requires short { end ≤ start + 64 }
         requires within { end ≤ length self.now.text.now }

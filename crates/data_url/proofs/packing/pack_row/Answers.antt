@@ -1,4 +1,4 @@
-use Rattle.std.proofs.Common.{arith, ◌%◌, ◌/◌, ◌+◌}
+use Rattle.std.proofs.Common.{arith, ◌%◌, ◌/◌}
 use Rattle.data_url.proofs.packing.Places.{half_packed, high_places, low_places, places_ok, row_packed}
 use Rattle.data_url.proofs.packing.pack_row.Goals as goal
 
@@ -21,6 +21,7 @@ returns-clause-kept c =
     let at = c.args.at in
     let middle = c.put.new.bytes in
     row_packed c.args.row c.args.bytes.now middle _ at _ _ _ c.fits-row.0
-    (half_packed c.args.row _ middle at c.fits-row.0 (omega arith) s.few low (omega (arith, c.requires.room)) c.put.ensures)
-    (half_packed c.args.row middle _ _ c.fits-row.0 (omega arith) t.few high (omega (arith, c.requires.room, c.put.auto.bytes, s.few))
-    c.put-2.ensures)
+    (half_packed c.args.row _ middle at c.fits-row.0 (omega arith) s.few low (omega (arith, c.requires.room))
+    c.put.ensures)
+    (half_packed c.args.row middle _ _ c.fits-row.0 (omega arith) t.few high
+    (omega (arith, c.requires.room, c.put.auto.bytes, s.few)) c.put-2.ensures)

@@ -1,5 +1,4 @@
-use Rattle.data_url.proofs.escapes.HexCodes.{starts_mask, values_computed}
-use Rattle.data_url.proofs.escapes.StopBits.{none_start}
+use Rattle.data_url.proofs.escapes.{HexCodes.{starts_mask, values_computed}, StopBits.{none_start}}
 use Rattle.data_url.proofs.escapes.lanes.decode_escapes.Goals as goal
 
 pub returns-clause-values : goal.returns-clause-values

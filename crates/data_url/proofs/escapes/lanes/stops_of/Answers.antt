@@ -1,15 +1,6 @@
 use Rattle.std.proofs.Common.{arith}
-use Rattle.data_url.proofs.escapes.StopBits.{equal_mask, marks_are, no_stops, stops_are, stops_fit, tabs_are}
+use Rattle.data_url.proofs.escapes.StopBits.{equal_mask, marks_are, stops_are, stops_fit, tabs_are}
 use Rattle.data_url.proofs.escapes.lanes.stops_of.Goals as goal
-
-pub overflow_sub-others : goal.overflow_sub-others
-overflow_sub-others c = omega (arith, c.requires.marks, c.requires.percents, marks_are c.args.bytes)
-
-pub returns-then-others-eq0 : goal.returns-then-others-eq0
-returns-then-others-eq0 c =
-    let n = no_stops c.args.bytes c.args.marks c.args.percents c.fits-bytes.0 c.requires.marks c.requires.percents
-    c.if-others-eq0.true in
-    record { passed = n.0; stops = n.1 }
 
 pub overflow_sub-passed : goal.overflow_sub-passed
 overflow_sub-passed c =

@@ -1,5 +1,5 @@
-use Rattle.std.proofs.Common.{arith, ◌∙◌, ◌^◌, ◌++◌, ap, take, List, ℕ}
-use Rattle.data_url.proofs.escapes.StopBits.{dropped_few, equal_mask, front_put, length-stops, zeros_before}
+use Rattle.std.proofs.Common.{List, ap, arith, take, ℕ, ◌++◌, ◌∙◌}
+use Rattle.data_url.proofs.escapes.StopBits.{equal_mask, front_put, length-stops, zeros_before}
 use Rattle.data_url.specs.Steps.Escapes.{stops}
 use Rattle.data_url.proofs.escapes.pack.pack_to_stop.Goals as goal
 
@@ -8,18 +8,6 @@ stops_of-passed-requires-clause-percents c = equal_mask c.args.bytes 37 c.fits-b
 
 pub decode_escapes-starts-requires : goal.decode_escapes-starts-requires
 decode_escapes-starts-requires c = equal_mask c.args.bytes 37 c.fits-bytes.0
-
-pub overflow_mul-dropped : goal.overflow_mul-dropped
-overflow_mul-dropped c =
-    let few = dropped_few c.args.bytes in
-    let long = ap (λ n. 2 ^ n) c.fits-bytes.0 in
-    record { fits = omega (arith, few, long, c.decode_escapes-starts.ensures.starts, c.stops_of-passed.ensures.passed) }
-
-pub overflow_add-dropped : goal.overflow_add-dropped
-overflow_add-dropped c =
-    let few = dropped_few c.args.bytes in
-    let long = ap (λ n. 2 ^ n) c.fits-bytes.0 in
-    record { fits = omega (arith, few, long, c.decode_escapes-starts.ensures.starts, c.stops_of-passed.ensures.passed) }
 
 pub returns-clause-packed : goal.returns-clause-packed
 returns-clause-packed c =

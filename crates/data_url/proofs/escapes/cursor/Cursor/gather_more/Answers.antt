@@ -1,6 +1,6 @@
 use Rattle.std.proofs.Common.{arith}
-use Rattle.data_url.proofs.escapes.Reading.{spells_none}
-use Rattle.data_url.proofs.escapes.Walking.{gathers_nothing, gathers_then, plain_unknown, walks}
+use Rattle.data_url.proofs.escapes.{Reading.{spells_none}, Walking.{gathers_nothing, gathers_then, plain_unknown}}
+use Rattle.data_url.proofs.escapes.Walking.{walks}
 use Rattle.data_url.proofs.escapes.cursor.Cursor.gather_more.Goals as goal
 
 pub returns-then-self-lt-SEVERAL : goal.returns-then-self-lt-SEVERAL

@@ -1,6 +1,6 @@
-use Rattle.std.proofs.Common.{◌≡◌, arith, ◌∙◌, subst}
-use Rattle.data_url.specs.{Pieces.{text_of}, Steps.Walk.{IsNextMark}}
-use Rattle.data_url.proofs.escapes.Walking.{end_knows, front_is, front_knows}
+use Rattle.std.proofs.Common.{arith, subst, ◌∙◌, ◌≡◌}
+use Rattle.data_url.{proofs.escapes.Walking.{end_knows, front_is, front_knows}, specs.Pieces.{text_of}}
+use Rattle.data_url.specs.Steps.Walk.{IsNextMark}
 use Rattle.data_url.proofs.escapes.cursor.Cursor.next_prefix.Goals as goal
 
 pub returns-clause-prefix : goal.returns-clause-prefix

@@ -9,21 +9,21 @@ pub loop-self-preserved : goal.loop-self-preserved
 loop-self-preserved c =
     let i = c.loop-self.invariant in
     let m = c.in-Some.ensures in
-    let t = c.stop_at.ensures.text in
+    let t = c.at_mark.ensures.text in
     let looking = looking_mark i.looking m.1 in
     let clear = spans_spelled (spells_clear _ _ _ m.1.forward m.1.within m.1.clear) in
     let mark = spans_on i.on i.spans clear in
     let on =
-    looks_then {s1 = c.stop_at.new.self} i.on (record { text_stays = t; looks_grow = c.stop_at.ensures.looks }) in
+    looks_then {s1 = c.at_mark.new.self} i.on (record { text_stays = t; looks_grow = c.at_mark.ensures.looks }) in
     elim c.in-Stays.is [
       | inl e ↦
-          let stop = rw e at c.stop_at.ensures.stop in
-          let looking = looking_paid {s' = c.stop_at.new.self} looking t stop.2 in
-          let spans = spans_on i.on mark (spans_spelled stop.1) in grind arith
+          let found = rw e at c.at_mark.ensures.found in
+          let looking = looking_paid {s' = c.at_mark.new.self} looking t found.2 in
+          let spans = spans_on i.on mark (spans_spelled found.1) in grind arith
       | inr e ↦
-          let stop = rw e at c.stop_at.ensures.stop in
-          let looking = looking_paid {s' = c.stop_at.new.self} looking t stop.2 in
-          let spans = spans_on i.on mark (spans_spelled stop.1) in grind arith
+          let found = rw e at c.at_mark.ensures.found in
+          let looking = looking_paid {s' = c.at_mark.new.self} looking t found.2 in
+          let spans = spans_on i.on mark (spans_spelled found.1) in grind arith
     ]
 
 pub returns-in_default-mark_from-clause-passes : goal.returns-in_default-mark_from-clause-passes
@@ -44,26 +44,26 @@ pub returns-in-Escape-clause-passes : goal.returns-in-Escape-clause-passes
 returns-in-Escape-clause-passes c =
     let i = c.loop-self.invariant in
     let m = c.in-Some.ensures in
-    let t = c.stop_at.ensures.text in
-    let stop = c.in-Escape.ensures.stop in
+    let t = c.at_mark.ensures.text in
+    let found = c.in-Escape.ensures.found in
     let clear = spans_spelled (spells_clear _ _ _ m.1.forward m.1.within m.1.clear) in
     record {
-      on = looks_then i.on (record { text_stays = t; looks_grow = c.stop_at.ensures.looks });
+      on = looks_then i.on (record { text_stays = t; looks_grow = c.at_mark.ensures.looks });
       spans = spans_on i.on i.spans clear;
       near = omega (arith, m.0, i.end);
-      ahead = (rw t stop.1, looking_paid (looking_mark i.looking m.1) t stop.2);
+      ahead = (rw t found.1, looking_paid (looking_mark i.looking m.1) t found.2);
     }
 
 pub returns-in-End-clause-passes : goal.returns-in-End-clause-passes
 returns-in-End-clause-passes c =
     let i = c.loop-self.invariant in
     let m = c.in-Some.ensures in
-    let t = c.stop_at.ensures.text in
-    let stop = c.in-End.ensures.stop in
+    let t = c.at_mark.ensures.text in
+    let found = c.in-End.ensures.found in
     let clear = spans_spelled (spells_clear _ _ _ m.1.forward m.1.within m.1.clear) in
     record {
-      on = looks_then i.on (record { text_stays = t; looks_grow = c.stop_at.ensures.looks });
+      on = looks_then i.on (record { text_stays = t; looks_grow = c.at_mark.ensures.looks });
       spans = spans_on i.on i.spans clear;
       near = omega (arith, m.0, i.end);
-      ahead = ended_at (looking_mark i.looking m.1) t stop.1 stop.2 refl;
+      ahead = ended_at (looking_mark i.looking m.1) t found.1 found.2 refl;
     }

@@ -1,8 +1,7 @@
 use Rattle.std.proofs.Common.{ap, arith, map, take-take, ◌∙◌}
-use Rattle.data_url.specs.Steps.Window.{is_marked}
-use Rattle.data_url.proofs.escapes.BlockMarks.{block_at}
-use Rattle.data_url.proofs.escapes.source.Source.look_block.Goals as goal
+use Rattle.data_url.{proofs.escapes.BlockMarks.{block_at}, specs.Steps.Window.{is_marked}}
 use lib.Lanes.{mask_l}
+use Rattle.data_url.proofs.escapes.source.Source.look_block.Goals as goal
 
 pub returns-else-rest-lt-BLOCK-clause-block : goal.returns-else-rest-lt-BLOCK-clause-block
 returns-else-rest-lt-BLOCK-clause-block c =
