@@ -168,45 +168,27 @@ escape_at text place a b high low w h e f p q l m =
     let second = digit_at text (place + 2) low (place + 3) (omega arith) (omega arith) (rw f at q) m in
     escape_both {text = text} refl (omega arith) h first second
 
--- after a tab or newline, what is found from the next index on is found from its index on
-pub digit_further : {text same : List ℕ} {place looks' : ℕ} (looks looks'' : ℕ) (found : Option (ℕ × ℕ)) → same ≡ text
-    → place < length text → is_tab_or_newline (get_or text place 0) ≡ true → looks' ≡ looks + 1
-    → IsDigitFrom same (place + 1) looks' looks'' found → IsDigitFrom text place looks looks'' found
-digit_further {text} {same} {place} {looks'} looks looks'' None e l code n h = grind arith
-digit_further {text} {same} {place} {looks'} looks looks'' (Some d) e l code n h = grind arith
-
 -- a byte that is not '%' begins no escape
 pub begins_other : (b : ℕ) (s : List ℕ) → (b == 37) ≡ false → begins_with_escape (b ∷ s) ≡ false
 begins_other b [] h = refl
 begins_other b (c ∷ []) h = refl
 begins_other b (c ∷ d ∷ s) h = grind (arith, and_left)
 
--- so none begins at a place of a text where there is no '%'
-pub no_percent : (text : List ℕ) (place : ℕ) → place < length text → (get_or text place 0 == 37) ≡ false
-    → begins_with_escape (drop place text) ≡ false
-no_percent text place l n = rw (drop_more text place 0 l) (begins_other (get_or text place 0) (drop (place + 1) text) n)
+-- no escape begins before bytes of whose codes one is 16 or more
+not_digits : (c a b high low : ℕ) (s : List ℕ) → IsCode a high → IsCode b low → 16 ≤ bit_or high low
+    → begins_with_escape (c ∷ a ∷ b ∷ s) ≡ false
+not_digits c a b high low s p q h = grind (arith, hex_other, or_lt 4 high low, cases_Bool (eqb c 37))
 
--- codes of which one is 16 or more are not both those of digits
-not_digits : (a b high low : ℕ) → IsCode a high → IsCode b low → 16 ≤ bit_or high low
-    → (is_ascii_hexdigit a && is_ascii_hexdigit b) ≡ false
-not_digits a b high low p q h = grind (arith, hex_other, or_lt 4 high low)
-
--- no escape begins before two bytes that are not both digits
-no_digits_at : (text : List ℕ) (place : ℕ) → place + 3 ≤ length text
-    → (is_ascii_hexdigit (get_or text (place + 1) 0) && is_ascii_hexdigit (get_or text (place + 2) 0)) ≡ false
-    → begins_with_escape (drop place text) ≡ false
-no_digits_at text place w n =
-    rw (
-      drop_more text place 0 (omega arith),
-      drop_more text (place + 1) 0 (omega arith),
-      drop_more text (place + 1 + 1) 0 (omega arith),
-    ) (grind arith)
-
--- nor before bytes with such codes
 pub no_digits : (text : List ℕ) (place a b high low : ℕ) → place + 3 ≤ length text → a ≡ get_or text (place + 1) 0
     → b ≡ get_or text (place + 2) 0 → IsCode a high → IsCode b low → 16 ≤ bit_or high low
     → begins_with_escape (drop place text) ≡ false
-no_digits text place a b high low w e f p q h = no_digits_at text place w (rw (e, f) at (not_digits a b high low p q h))
+no_digits text place a b high low w e f p q h =
+    let first = drop_more text place 0 (omega arith) in
+    let second = drop_more text (place + 1) 0 (omega arith) in
+    let third = drop_more text (place + 2) 0 (omega arith) in
+    let two : place + 1 + 1 ≡ place + 2 = omega arith in
+    let three : place + 2 + 1 ≡ place + 3 = omega arith in
+    cc (not_digits (get_or text place 0) a b high low (drop (place + 3) text) p q h)
 
 -- the lemmas for `digit`, `escape` and `escape_here`
-pub ruleset digits = (digit_further, escape_no_high, escape_at, le_or_l, le_or_r, no_percent, no_digits)
+pub ruleset digits = (escape_no_high, escape_at, le_or_l, le_or_r, no_digits)

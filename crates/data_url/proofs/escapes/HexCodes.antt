@@ -83,16 +83,12 @@ smaller_are : (f g : ℕ → ℕ) (v xs ys : List ℕ) → xs ≡ map f v → ys
 smaller_are f g v xs ys p q = chosen (λ b. ltb (f b) (g b)) f g v (below_are f g v xs ys p q) p q
 
 -- the codes that lanes compute
-abbrev pub lasts : List ℕ → List ℕ
-lasts v = zip2 add8 v (replicate 64 198)
-
-abbrev pub uppers : List ℕ → List ℕ
-uppers v = zip2 sub8 (zip2 bit_and v (replicate 64 223)) (replicate 64 65)
-
 abbrev pub code_lanes : List ℕ → List ℕ
 code_lanes v = smaller
-    (zip2 sub8 (zip2 sub8 (greater (lasts v) (replicate 64 6)) (replicate 64 6)) (replicate 64 240))
-    (zip2 add8 (smaller (uppers v) (replicate 64 245)) (replicate 64 10))
+    (zip2 sub8 (zip2 sub8 (greater (zip2 add8 v (replicate 64 198)) (replicate 64 6)) (replicate 64 6))
+    (replicate 64 240))
+    (zip2 add8 (smaller (zip2 sub8 (zip2 bit_and v (replicate 64 223)) (replicate 64 65)) (replicate 64 245))
+    (replicate 64 10))
 
 codes_are : (v : List ℕ) → length v ≡ 64 → code_lanes v ≡ map code v
 codes_are v long =

@@ -45,8 +45,7 @@ rest_is (b ∷ z) r k n over is =
 pub packs_front : {c c' : Cursor} {room room' v : List ℕ} {len used end size : ℕ} (z r : List ℕ) (k : ℕ)
     → v ≡ z ++ replicate k 0 → size ≡ length z → drop c.place (text_of c) ≡ z ++ r → c.place ≤ length (text_of c)
     → (0 < k → r ≡ []) → IsPacked v size room room' len used end → LooksOn c.source c'.source
-    → c'.place ≡ c.place + used → length room ≡ 512 → length room' ≡ 512 → len ≤ 384
-    → Packs c c' room room' len end
+    → c'.place ≡ c.place + used → length room ≡ 512 → length room' ≡ 512 → len ≤ 384 → Packs c c' room room' len end
 packs_front {c} {c'} {room} {room'} {v} {len} {used} {end} {size} z r k vs ss cut within over p on q long long' few =
     let text = text_of c in
     let x = take used v in

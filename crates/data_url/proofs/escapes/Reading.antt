@@ -1,4 +1,5 @@
 -- What a walk reads between two places of its text, and the bound on how many bytes it reads. For `at_mark`.
+use Rattle.std.proofs.lemmas.Bool.{cases_Bool}
 use Rattle.std.proofs.Common.{List, ap, append_assoc, arith, cond, drop, false, get_or, length, length-append, refl}
 use Rattle.std.proofs.Common.{slice_range, suc, take, true, zero, [], ℕ, ◌*◌, ◌++◌, ◌+◌, ◌-◌, ◌<◌, ◌==◌, ◌∙◌, ◌∷◌, ◌≡◌}
 use Rattle.std.proofs.{Common.{◌≤◌}, lemmas.List.Sums.{count_by-le-length, length-filter, prefix_len-drop_no}}
@@ -50,11 +51,9 @@ percent_shorter [] = omega arith
 percent_shorter (a ∷ []) = omega arith
 percent_shorter (a ∷ b ∷ []) = omega arith
 percent_shorter (a ∷ b ∷ c ∷ s) =
-    let h = percent_shorter s in
-    let k = percent_shorter (b ∷ c ∷ s) in
-    elim (begins_with_escape (a ∷ b ∷ c ∷ s)) as
-    (λ v. length (cond v ((16 * digit_value b + digit_value c) ∷ percent_decoding s)
-    (a ∷ percent_decoding (b ∷ c ∷ s))) ≤ suc (suc (suc (length s)))) [ true ↦ omega arith | false ↦ omega arith ]
+    let one = percent_shorter s in
+    let more = percent_shorter (b ∷ c ∷ s) in
+    grind (arith, cases_Bool (begins_with_escape (a ∷ b ∷ c ∷ s)))
 
 -- the body of a tail is not longer than the tail
 pub body_shorter : (tail : List ℕ) → length (plain_body tail) ≤ length tail

@@ -125,10 +125,6 @@ pub looking_escape : {s s' : Source} {b : Block} {place : ℕ} → Looking s b p
     → s'.looks ≤ s.looks + 3 → place + 3 ≤ length s.text.now → Looking s' b (place + 3) 3
 looking_escape {s} {s'} {b} {place} k t l w = let p = paid_on s.text.now place (place + 3) (omega arith) in grind arith
 
--- what is true of every walk stays true if the walk goes on, and what its `ahead` says is true
-pub knows_on : {c c' : Cursor} {next : Option Piece} → Knows c → GoesOn c next c' → KnowsAhead c' c'.ahead → Knows c'
-knows_on {c} {c'} {next} k g a = let text = g.on.text_stays in record { after_is = cc; ahead_is = a }
-
 -- a walk that stops at the end of the body ends there
 pub ended_at : {c : Cursor} {s : Source} {b : Block} {mark : ℕ} → Looking s b mark 0 → c.source.text.now ≡ s.text.now
     → EndsAt s.text.now mark → c.source.looks + mark ≤ s.looks + length s.text.now → c.place ≡ mark → Ended c
@@ -233,12 +229,6 @@ gathers_escape g on e l = gathers_then g (gathers_byte on (spells_escape e).read
 -- how far the walk still has to go, and whether it is at the end
 abbrev pub measure : ℕ → ℕ → Bool → ℕ
 measure total place ended = 2 * (total - place) + cond ended 0 1
-
--- gathering bytes makes the measure smaller, if the walk moves or ends
-pub smaller : (c0 : Cursor) {c1 c' : Cursor} {room room' : List ℕ} {len len' : ℕ} (total : ℕ) → c0.ahead ≡ Unknown
-    → c1.place ≡ c0.place → length (text_of c1) ≡ total → Moves c1 c' → Gathers c1 c' room room' len len'
-    → measure total c'.place (has_ended c'.ahead) < measure total c0.place (has_ended c0.ahead)
-smaller c0 {c1} {c'} {room} {room'} {len} {len'} total u p t m g = grind arith
 
 -- where a walk has ended, nothing of the body is left
 pub rest_over : {c : Cursor} → Knows c → has_ended c.ahead ≡ true → plain_body (drop c.place (text_of c)) ≡ []
@@ -433,10 +423,10 @@ takes_raw c c' {bytes} a t e l =
 pub ruleset stretches = (looking_escape, looking_paid, byte_part, byte_next, goes_part, slice_part, searched)
 
 -- the lemmas for the functions that gather bytes
-pub ruleset gathering = (gathers_byte, gathers_nothing, gathers_then, gathers_escape, reads_escape, ended_at, smaller)
+pub ruleset gathering = (gathers_byte, gathers_nothing, gathers_then, gathers_escape, reads_escape, ended_at)
 
 -- the lemmas for `Cursor`
-pub ruleset walks = (stretches, gathering, marks_padded, plain_unknown, knows_on, ahead_is, spells_none, spells_then)
+pub ruleset walks = (stretches, gathering, marks_padded, spells_none, spells_then)
 
 -- the lemmas for `Source`
 pub ruleset sources = (copied_wide, marks_padded, padded_is, hash_at, drop_all, IsCharBoundary-after_ascii)

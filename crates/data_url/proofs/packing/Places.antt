@@ -171,4 +171,4 @@ rows_packed v b0 b1 b2 b3 b4 dropped at e1 e2 e3 e4 long p q r s =
     grind (arith, extracted_is, four_parts, rows_are)
 
 -- the lemmas for `packing.rt`
-pub ruleset packing = (take_more_put_chunk)
+pub ruleset packing = (places_are, places_long, places_small, rows_packed, take_more_put_chunk)
