@@ -1,9 +1,8 @@
 -- What a walk reads between two places of its text, and the bound on how many bytes it reads. For `at_mark`.
-use Rattle.std.proofs.lemmas.Bool.{cases_Bool}
 use Rattle.std.proofs.Common.{List, ap, append_assoc, arith, cond, drop, false, get_or, length, length-append, refl}
 use Rattle.std.proofs.Common.{slice_range, suc, take, true, zero, [], ℕ, ◌*◌, ◌++◌, ◌+◌, ◌-◌, ◌<◌, ◌==◌, ◌∙◌, ◌∷◌, ◌≡◌}
-use Rattle.std.proofs.{Common.{◌≤◌}, lemmas.List.Sums.{count_by-le-length, length-filter, prefix_len-drop_no}}
-use Rattle.std.{proofs.lemmas.List.Sums.{prefix_len-le-length}, specs.Char.{digit_value}}
+use Rattle.std.proofs.{Common.{◌≤◌}, lemmas.Bool.{cases_Bool}, lemmas.List.Sums.{count_by-le-length, length-filter}}
+use Rattle.std.proofs.lemmas.List.Sums.{prefix_len-drop_no, prefix_len-le-length}
 use Rattle.data_url.proofs.escapes.EscapeDigits.{begins_other, cleaned_hash, cleaned_keeps, cleaned_nil, cleaned_passes}
 use Rattle.data_url.proofs.{percent.Encoding.{decoded_escape}, texts.Bytes.{after_other}}
 use Rattle.data_url.specs.{Fetch.{plain_body}, Percent.{begins_with_escape, percent_decoding}, Pieces.{is_slice_end}}
@@ -38,12 +37,6 @@ decoded_byte b [] h = refl
 decoded_byte b (c ∷ []) h = refl
 decoded_byte b (c ∷ d ∷ s) h = grind arith
 
--- the text before the first c is not longer than the whole text
-before_shorter : (c : ℕ) (s : List ℕ) → length (before c s) ≤ length s
-unfolding before
-before_shorter c [] = omega arith
-before_shorter c (b ∷ s) = grind (arith, before_shorter c s)
-
 -- a percent-decoded text is not longer than the text
 percent_shorter : (s : List ℕ) → length (percent_decoding s) ≤ length s
 unfolding percent_decoding
@@ -55,11 +48,6 @@ percent_shorter (a ∷ b ∷ c ∷ s) =
     let more = percent_shorter (b ∷ c ∷ s) in
     grind (arith, cases_Bool (begins_with_escape (a ∷ b ∷ c ∷ s)))
 
--- the body of a tail is not longer than the tail
-pub body_shorter : (tail : List ℕ) → length (plain_body tail) ≤ length tail
-unfolding plain_body front without_tabs_and_newlines
-body_shorter tail = grind (arith, percent_shorter, before_shorter, length-filter, count_by-le-length)
-
 -- a text is its bytes before the first '#', and then some other text
 before_first : (s : List ℕ) → (rest : List ℕ) × (s ≡ before 35 s ++ rest)
 unfolding before
@@ -68,6 +56,14 @@ before_first (b ∷ s) = elim (b == 35) as (λ v. (rest : List ℕ) × (b ∷ s 
   | true ↦ (b ∷ s, refl)
   | false ↦ let k = before_first s in (k.0, ap (λ t. b ∷ t) k.1)
 ]
+
+-- the body of a tail is not longer than the tail
+pub body_shorter : (tail : List ℕ) → length (plain_body tail) ≤ length tail
+unfolding plain_body front without_tabs_and_newlines
+body_shorter tail =
+    let f = before_first (without_tabs_and_newlines tail) in
+    let long = ap length f.1 ∙ length-append (before 35 (without_tabs_and_newlines tail)) f.0 in
+    grind (arith, percent_shorter, length-filter, count_by-le-length)
 
 -- before an escape a slice may end
 pub escape_ends : {text : List ℕ} {place value end : ℕ} → place < length text → EscapeAt text place value end

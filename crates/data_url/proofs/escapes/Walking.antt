@@ -2,7 +2,7 @@
 use Rattle.std.proofs.Common.{Some, refl, sym, ap, ◌∙◌, inl, inr, arith, length-append, Bool, ◌≢◌, Option, ◌*◌, cond}
 use Rattle.std.proofs.Common.{drop-drop, length-drop, append-nil, ◌≡◌, ℕ, ◌+◌, ◌-◌, ◌<◌, ◌≤◌, true, List, [], ◌∷◌, ◌++◌}
 use Rattle.std.proofs.Common.{length, take, drop, get_or, None, length-take-le, take-append-drop, set, append_assoc}
-use Rattle.std.{proofs.Common.{take-add, slice_range, IfNone}, proofs.lemmas.Str.{IsCharBoundary-after_ascii}}
+use Rattle.std.{proofs.Common.{take-add, slice_range}, proofs.lemmas.Str.{IsCharBoundary-after_ascii}}
 use Rattle.std.proofs.lemmas.List.{drop_more, drop_all, take_more_set, append_cancel_right}
 use Rattle.data_url.specs.{Fetch.{plain_body}, Steps.Digits.{EscapeAt, cleaned}, declared.escapes.Piece.{Piece}}
 use Rattle.data_url.specs.Pieces.{Walk, text_of, IsStretch, bytes_of, has_ended, is_slice_end, walk_of}
@@ -19,8 +19,8 @@ use Rattle.std.proofs.lemmas.List.Elements.{filter-append}
 use Rattle.data_url.specs.Steps.Chunks.{IsBodyPrefix, IsOver, Spans, Takes}
 use Rattle.data_url.proofs.escapes.Reading.{body_shorter}
 use Rattle.data_url.specs.Steps.Tail.{BeginsFragment, IsBodyEnd, rest_fragment}
-use Rattle.data_url.specs.Steps.Walk.{Ended, EndsAt, Gathering, Gathers, GoesOn, IsClear, IsNextMark, IsPart, Knows, KnowsAhead}
-use Rattle.data_url.specs.Steps.Walk.{Looking, LooksOn, MayGather, Moves, Pays, Reads, Searching, Spells}
+use Rattle.data_url.specs.Steps.Walk.{Ended, EndsAt, Gathers, GoesOn, IsClear, IsNextMark, IsPart, Knows, KnowsAhead}
+use Rattle.data_url.specs.Steps.Walk.{Looking, LooksOn, MayGather, Pays, Reads, Searching, Spells}
 use Rattle.data_url.specs.{Url.{before, after, front, without_tabs_and_newlines}, declared.escapes.cursor.Ahead.{Ahead}}
 use Rattle.data_url.specs.{declared.escapes.Piece.TheVariants.{Byte, Slice}, declared.escapes.cursor.Cursor.{Cursor}}
 use Rattle.data_url.specs.declared.escapes.cursor.Ahead.TheVariants.{AfterEscape, End, Escape, Unknown}
@@ -130,10 +130,6 @@ pub ended_at : {c : Cursor} {s : Source} {b : Block} {mark : ℕ} → Looking s 
     → EndsAt s.text.now mark → c.source.looks + mark ≤ s.looks + length s.text.now → c.place ≡ mark → Ended c
 ended_at {c} {s} {b} {mark} k t h l e = grind (arith, paid_le)
 
--- of a walk that gathers, nothing is known unless it has ended
-pub plain_unknown : {c : Cursor} → Gathering c → c.ahead ≢ End → c.ahead ≡ Unknown
-plain_unknown {c} g n = grind arith
-
 -- if `ahead` is a, and what a says is true, what `ahead` says is true
 pub ahead_is : (c : Cursor) (a : Ahead) → c.ahead ≡ a → KnowsAhead c a → KnowsAhead c c.ahead
 ahead_is c a e k = grind arith
@@ -233,12 +229,6 @@ measure total place ended = 2 * (total - place) + cond ended 0 1
 -- where a walk has ended, nothing of the body is left
 pub rest_over : {c : Cursor} → Knows c → has_ended c.ahead ≡ true → plain_body (drop c.place (text_of c)) ≡ []
 rest_over {c} k e = grind (arith, ends_empty, ended_of)
-
--- if there is no next piece, nothing of the body is left
-pub over_rest : (next : Option Piece) {c c' : Cursor} → GoesOn c next c' → Knows c'
-    → IfNone next (plain_body (drop c'.place (text_of c')) ≡ [])
-over_rest None g k = rest_over k g.ended
-over_rest (Some p) g k = tt
 
 -- a piece has at least one byte
 piece_some : (p : Piece) {c c' : Cursor} → GoesOn c (Some p) c' → 0 < length (bytes_of p)
@@ -432,4 +422,4 @@ pub ruleset walks = (stretches, gathering, marks_padded, spells_none, spells_the
 pub ruleset sources = (copied_wide, marks_padded, padded_is, hash_at, drop_all, IsCharBoundary-after_ascii)
 
 -- the lemmas for `Pieces`
-pub ruleset walking = (body_end, rest_over, over_rest, again, few_looks)
+pub ruleset walking = (body_end, rest_over, again, few_looks)

@@ -70,7 +70,7 @@ impl<'a> Cursor<'a> {
         ensures moves { IfSome result (λ _. Moves self.old self.new
             × (self.old.ahead ≡ Ahead.Unknown)) }
     {
-        if let Ahead::End = self.ahead {
+        if !matches!(self.ahead, Ahead::Unknown) {
             return None;
         }
         if self.place >= self.source.len() {
