@@ -1,8 +1,8 @@
 pub mod BlockMarks
 pub mod EscapeDigits
+pub mod Fronts
 pub mod HexCodes
 pub mod PackedBlocks
 pub mod Reading
 pub mod StopBits
 pub mod Walking
-pub mod WholeEscapes

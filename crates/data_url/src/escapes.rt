@@ -13,9 +13,9 @@ mod digits;
 mod gather;
 mod lanes;
 mod looks;
+mod marks;
 mod pack;
 mod source;
-mod stops;
 
 use cursor::{Ahead, Cursor};
 pub(crate) use gather::BUFFER_LEN;

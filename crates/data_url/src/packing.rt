@@ -3,8 +3,7 @@
 #![tactic(auto, using(crate::proofs::packing::Places::packing))]
 
 ghost use Rattle.std.specs.Prelude.{◌≡◌, ◌+◌, ◌++◌, ◌<◌, ◌≤◌, length, take};
-ghost use Rattle.std.specs.List.{range_with_len};
-ghost use Rattle.std.specs.Simd.Lanes.{Each1};
+ghost use Rattle.std.specs.{List.{range_with_len}, Simd.Lanes.{Each1}};
 ghost use Rattle.data_url.specs.Steps.Groups.{clear};
 
 use crate::classes::lanes::{put, row};

@@ -1,28 +1,23 @@
--- Blocks of a text and their marks: lanes that are looked up in a table and compared. For `marks_of`, `look_block`
--- and `next_mark`.
-use Rattle.std.proofs.Common.{slice_index, List, [], ◌∷◌, ◌++◌, length, drop, get_or, refl, sym, ap, ◌∙◌, arith}
-use Rattle.std.proofs.Common.{bit_and, w8, Fits, ◌≢◌, inl, inr, ◌==◌, slice_range, length-take-le}
-use Rattle.std.proofs.Common.{take-take}
-use Rattle.std.proofs.Common.{eqb, eqb-true, take, ◌/◌, ◌^◌, map, replicate, ◌%◌}
-use Rattle.std.proofs.Common.{map-id, ◌≡◌, ℕ, zero, suc, ◌+◌, ◌-◌, ◌<◌, ◌≤◌, Bool, true, false, not, cond}
-use Rattle.std.{proofs.Common.{leb}, proofs.Math.Nat.{div-div-eq-div-mul, pow-suc}}
-use Rattle.std.proofs.lemmas.Nat.{and_le_r}
-use Rattle.std.{proofs.Math.Seq.{take-append-add}, specs.List.{list_all, prefix_len}}
-use Rattle.std.proofs.lemmas.Bool.{agree_below_at, cases_Bool, cases_lt, eqb-true}
-use Rattle.std.proofs.lemmas.List.{drop-replicate, take_rest, take-append-le, drop-map, length-map}
-use Rattle.std.proofs.lemmas.Simd.{SwzOk-from_below, get_or-swz_l_below, mask_l-mod, swz_l, run_in_chunk_le}
-use Rattle.std.proofs.lemmas.Simd.{bitmask_splat, run_in_chunk_stops, trailing_mask_l, tops_compared, zip2_of_maps}
-use Rattle.std.proofs.lemmas.Simd.{zip2_splat, none_from_empty_mask, run_in_chunk_fails, put_chunk_whole, SwzOk}
-use Rattle.std.{specs.Int.Count.{count_trailing_zeros}, specs.Simd.Lanes.{chunk, mask_l, put_chunk, Each1, top, zip2}}
-use Rattle.data_url.specs.{Steps.Window.{is_marked, is_plain}}
-use Rattle.data_url.specs.Steps.Walk.{IsClear, IsBlock, IsNextMark, Looking}
-use Rattle.data_url.specs.{declared.escapes.lanes.TheConstants.{MARKED}}
-use Rattle.data_url.specs.{declared.escapes.source.Source.{Source}, declared.escapes.stops.Block.{Block}}
+-- Blocks of a text and their marks: lanes that are looked up in a table and compared. For `marks_of` and
+-- `next_mark`.
+use Rattle.std.proofs.Common.{slice_index, Bool, Fits, List, ap, arith, bit_and, cond, drop, eqb, eqb-true, get_or, inl, inr}
+use Rattle.std.proofs.Common.{leb, length, length-take-le, map, map-id, not, refl, replicate, slice_range, suc}
+use Rattle.std.proofs.Common.{sym, take, take-take, take_all, true, w8, zero, [], ℕ, ◌%◌, ◌++◌, ◌+◌, ◌-◌, ◌/◌, ◌<◌}
+use Rattle.std.proofs.{Common.{◌^◌, ◌∙◌, ◌∷◌, ◌≡◌, ◌≢◌, ◌≤◌}, Math.Nat.{div-div-eq-div-mul, pow-suc}}
+use Rattle.std.proofs.{Math.Seq.{take-append-add}, lemmas.Bool.{agree_below_at, cases_Bool, cases_lt, eqb-true}}
+use Rattle.std.proofs.lemmas.{List.{drop-map, drop-replicate, length-map, take-append-le, take_rest}, Nat.{and_le_r}}
+use Rattle.std.proofs.lemmas.Simd.{SwzOk, SwzOk-from_below, bitmask_splat, get_or-swz_l_below, mask_l-mod}
+use Rattle.std.proofs.lemmas.Simd.{none_from_empty_mask, put_chunk_whole, run_in_chunk_fails, run_in_chunk_le}
+use Rattle.std.proofs.lemmas.Simd.{run_in_chunk_stops, swz_l, tops_compared, trailing_mask_l, zip2_of_maps, zip2_splat}
+use Rattle.std.specs.{Int.Count.{count_trailing_zeros}, List.{prefix_len}, Simd.Lanes.{Each1, chunk, mask_l}}
+use Rattle.std.specs.Simd.Lanes.{put_chunk, top, zip2}
+use Rattle.data_url.{proofs.escapes.Reading.{escape_ends, paid_on, paid_percent}, specs.Steps.Walk.{IsBlock, IsClear}}
+use Rattle.data_url.specs.Steps.{Walk.{IsNextMark, Looking}, Window.{is_marked}}
+use Rattle.data_url.specs.declared.escapes.{lanes.TheConstants.{MARKED}, marks.Block.{Block}, source.Source.{Source}}
 use borrow.Rule.Slice.PartMut.{mid_of, post_of, put_mid}
-pub use Rattle.std.proofs.lemmas.List.{drop_more, get_or-drop, length-drop, drop-drop, drop_all, drop-take, length-take}
-use Rattle.data_url.proofs.escapes.Reading.{escape_ends, paid_on, paid_percent}
+pub use Rattle.std.proofs.lemmas.List.{drop-drop, drop-take, drop_all, drop_more, get_or-drop, length-drop, length-take}
 
--- Blocks of a body and their marks. For `look_block` and `next_mark`.
+-- Blocks of a body and their marks. For `next_mark`.
 
 -- a block of 64 bytes of the text, copied into a buffer of 512 bytes, leaves its first `width` bytes there
 pub copied_wide : (room bytes text : List ℕ) (len width start : ℕ) → length room ≡ 512 → len + 64 ≤ 512 → width ≤ 64
@@ -151,27 +146,50 @@ pub block_from : {s : Source} {b : Block} {place marks : ℕ} → Looking s b pl
     → marks ≡ b.marks / 2 ^ (place - b.base) → IsBlock s.text.now place b.seen marks
 block_from {s} {b} {place} {marks} k l e = grind (arith, mask_later, drop-map, drop_taken, drop-drop)
 
--- when the block at an index is read, the walk can go on there
-pub looking_read : {s s' : Source} {b : Block} {place marks : ℕ} (bytes : List ℕ) → Looking s b place 0
+-- when the block between two indices is read, the walk can go on at the first of them
+looking_read : {s s' : Source} {b : Block} {place seen marks : ℕ} (bytes : List ℕ) → Looking s b place 0
+    → b.seen ≤ place → s'.text.now ≡ s.text.now → seen ≡ place + length bytes → seen ≤ length s.text.now
+    → seen ≤ place + 64 → s'.looks + place ≡ s.looks + seen → bytes ≡ take (length bytes) (drop place s.text.now)
+    → marks ≡ mask_l (map is_marked bytes)
+    → Looking s' (record { base = place; seen = seen; marks = marks }) place 0
+looking_read {s} {s'} {b} {place} {seen} {marks} bytes k unseen t end within short n e m =
+    let width : length bytes ≡ seen - place = omega (arith, end) in
+    let all : bytes ≡ slice_range s'.text.now place seen =
+    e ∙ ap (λ j. take j (drop place s.text.now)) width ∙ ap (λ (x : List ℕ). take (seen - place) (drop place x)) (sym t) in
+    record {
+      block = record {
+        base_le = omega (arith, end);
+        seen_le = rw t within;
+        short = short;
+        marks_are = m ∙ ap (λ x. mask_l (map is_marked x)) all;
+      };
+      base_le = omega arith;
+      within = rw t k.within;
+      looks_are_paid = rw t (omega (arith, k.looks_are_paid, unseen, n));
+    }
+
+-- when the whole block at an index is read, the walk can go on there
+pub looking_whole : {s s' : Source} {b : Block} {place marks : ℕ} (bytes : List ℕ) → Looking s b place 0
     → b.seen ≤ place → place + 64 ≤ length s.text.now → s'.text.now ≡ s.text.now → s'.looks ≡ s.looks + 64
     → bytes ≡ take 64 (drop place s.text.now) → marks ≡ mask_l (map is_marked bytes)
     → Looking s' (record { base = place; seen = place + 64; marks = marks }) place 0
-looking_read {s} {s'} {b} {place} {marks} bytes k seen within t l e m =
-    let size : place + 64 - place ≡ 64 = omega arith in
-    let all : slice_range s'.text.now place (place + 64) ≡ bytes =
-    ap (λ n. take n (drop place s'.text.now)) size ∙ ap (λ (x : List ℕ). take 64 (drop place x)) t ∙ sym e in
-    let long : place + 64 ≤ length s'.text.now = rw t within in
-    record {
-      block = record {
-        base_le = omega arith;
-        seen_le = long;
-        short = omega arith;
-        marks_are = m ∙ ap (λ x. mask_l (map is_marked x)) (sym all);
-      };
-      base_le = omega arith;
-      within = omega arith;
-      looks_are_paid = rw t (omega (arith, k.looks_are_paid));
-    }
+looking_whole {s} {place = place} bytes k unseen within t l e m =
+    let rest = drop place s.text.now in
+    let long : length bytes ≡ 64 =
+    ap length e ∙ length-take-le 64 rest (omega (arith, within, length-drop place s.text.now)) in
+    looking_read bytes k unseen t (omega (arith, long)) within (omega arith) (omega (arith, l))
+    (e ∙ ap (λ n. take n rest) (sym long)) m
+
+-- when the rest of the text from an index on is read, which is short, the walk can go on there
+pub looking_rest : {s s' : Source} {b : Block} {place marks : ℕ} (rest : List ℕ) → Looking s b place 0 → b.seen ≤ place
+    → s'.text.now ≡ s.text.now → length s.text.now < place + 64 → rest ≡ drop place s.text.now
+    → marks ≡ mask_l (map is_marked rest) → s'.looks + place ≡ s.looks + length s.text.now
+    → Looking s' (record { base = place; seen = place + length rest; marks = marks }) place 0
+looking_rest {s} {place = place} rest k unseen t few e m n =
+    let long : length rest ≡ length s.text.now - place = ap length e ∙ length-drop place s.text.now in
+    looking_read rest k unseen t refl (omega (arith, long, k.within)) (omega (arith, long, few))
+    (omega (arith, n, long, k.within)) (e ∙ sym (take_all (length rest) (drop place s.text.now) (omega (arith, ap length e))))
+    m
 
 -- if the marks of a block are not 0, their number of trailing zeros is that of the bytes before the next mark
 pub found : {text : List ℕ} {place seen marks : ℕ} (width : ℕ) → IsBlock text place seen marks → marks ≢ 0
@@ -217,5 +235,5 @@ mark_then e l a m = record {
   marked = rw e at m.marked;
 }
 
--- the lemmas for `next_mark` and `stop_at`
-pub ruleset stops = (paid_percent, escape_ends, drop_more, looking_mark, looking_seen, looking_read, clear_then, mark_then)
+-- the lemmas for `next_mark` and `at_mark`
+pub ruleset mark_places = (paid_percent, escape_ends, drop_more, looking_mark, looking_seen, clear_then, mark_then)

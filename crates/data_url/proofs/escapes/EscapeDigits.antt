@@ -1,20 +1,14 @@
 -- Hexadecimal digits in a text, after tabs and newlines. For `digit`, `escape` and `escape_here`.
-use Rattle.std.proofs.Common.{List, [], ◌∷◌, ◌++◌, length, drop, get_or, Option, None, Some, refl, ap, ◌∙◌, arith}
-use Rattle.std.proofs.Common.{bit_or, ◌==◌}
-use Rattle.std.proofs.Common.{eqb, ltb, eqb-true}
-use Rattle.std.proofs.Common.{◌≡◌, ℕ, zero, suc, ◌+◌, ◌*◌, ◌-◌, ◌<◌, ◌≤◌, Bool, true, false, not, cond, ◌&&◌}
-use Rattle.std.proofs.lemmas.Nat.{le_or_l, le_or_r, or_lt, and_le_r}
-use Rattle.std.{specs.Char.{digit_value, is_ascii_hexdigit}}
-use Rattle.std.proofs.lemmas.Bool.{agree_below_at, and_left, and_right, cases_Bool, eqb-true}
-use Rattle.std.proofs.lemmas.List.Sums.{prefix_len-drop_yes}
-use Rattle.data_url.specs.{Percent.{begins_with_escape}}
-use Rattle.data_url.specs.Steps.Digits.{DigitFound, EscapeAt, NoDigit, NoEscape, Skipped, IsCode, IsDigitFrom, cleaned}
-use Rattle.data_url.specs.{Steps.Looks.{before_percent}}
-use Rattle.data_url.specs.Url.{after, front, is_tab_or_newline}
-use Rattle.data_url.specs.{declared.escapes.digits.TheConstants.{DIGITS}}
-use Rattle.data_url.proofs.{texts.Bytes.{before_same, after_other}}
-use Rattle.data_url.proofs.texts.Bytes.{dropped_keeps, dropped_nil, dropped_passes, before_nil, before_other}
-pub use Rattle.std.proofs.lemmas.List.{drop_more, get_or-drop, length-drop, drop-drop, drop_all, drop-take, length-take}
+use Rattle.std.proofs.Common.{Bool, List, ap, arith, bit_or, cond, drop, eqb, eqb-true, false, get_or, length, ltb, not}
+use Rattle.std.proofs.Common.{refl, suc, true, zero, [], ℕ, ◌&&◌, ◌*◌, ◌++◌, ◌+◌, ◌-◌, ◌<◌, ◌==◌, ◌∙◌, ◌∷◌, ◌≡◌, ◌≤◌}
+use Rattle.std.proofs.lemmas.{Bool.{agree_below_at, and_left, cases_Bool, eqb-true}, List.Sums.{prefix_len-drop_yes}}
+use Rattle.std.{proofs.lemmas.Nat.{and_le_r, le_or_l, le_or_r, or_lt}, specs.Char.{digit_value, is_ascii_hexdigit}}
+use Rattle.data_url.proofs.texts.Bytes.{after_other, before_nil, before_other, before_same, dropped_keeps, dropped_nil}
+use Rattle.data_url.{proofs.texts.Bytes.{dropped_passes}, specs.Percent.{begins_with_escape}}
+use Rattle.data_url.specs.Steps.Digits.{DigitFound, EscapeAt, IsCode, NoDigit, NoEscape, Skipped, cleaned}
+use Rattle.data_url.specs.{Steps.Looks.{before_percent}, Url.{after, front, is_tab_or_newline}}
+use Rattle.data_url.specs.declared.escapes.digits.TheConstants.{DIGITS}
+pub use Rattle.std.proofs.lemmas.List.{drop-drop, drop-take, drop_all, drop_more, get_or-drop, length-drop, length-take}
 
 -- Hexadecimal digits in a text, after tabs and newlines. For `escape` and `escape_here`.
 
@@ -106,15 +100,15 @@ no_digit : {text : List ℕ} {place looks looks' : ℕ} → NoDigit text place l
 no_digit {text} {place} {looks} {looks'} n =
     grind (arith, same n.skipped, other_first (drop n.end text), get_or-drop, length-drop)
 
--- a '%' and at most one byte before no digit are no escape
-pub no_escape : (raw s : List ℕ) → length raw < 2 → begins_with_digit s ≡ false
-    → begins_with_escape (37 ∷ (raw ++ s)) ≡ false
-no_escape [] [] l h = refl
-no_escape [] (b ∷ []) l h = refl
-no_escape [] (b ∷ c ∷ s) l h = grind (arith, and_left)
-no_escape (b ∷ []) [] l h = refl
-no_escape (b ∷ []) (c ∷ s) l h = grind (arith, and_right)
-no_escape (b ∷ c ∷ raw) s l h = absurd (omega arith)
+-- a byte and at most one more before no digit are no escape
+pub no_escape : (a : ℕ) (raw s : List ℕ) → length raw < 2 → begins_with_digit s ≡ false
+    → begins_with_escape (a ∷ (raw ++ s)) ≡ false
+no_escape a [] [] l h = refl
+no_escape a [] (b ∷ []) l h = refl
+no_escape a [] (b ∷ c ∷ s) l h = grind (arith, cases_Bool (eqb a 37))
+no_escape a (b ∷ []) [] l h = refl
+no_escape a (b ∷ []) (c ∷ s) l h = grind (arith, cases_Bool (eqb a 37), cases_Bool (is_ascii_hexdigit b))
+no_escape a (b ∷ c ∷ raw) s l h = absurd (omega arith)
 
 -- a '%', and then the text after it
 percent_first : (text : List ℕ) (place : ℕ) → place < length text → get_or text place 0 ≡ 37
@@ -126,7 +120,7 @@ percent_first text place l h = grind (arith, drop_more text place 0, cleaned_kee
 pub escape_no_high : {text : List ℕ} {place looks looks' : ℕ} → place < length text → get_or text place 0 ≡ 37
     → NoDigit text (place + 1) looks looks' → NoEscape text place looks looks'
 escape_no_high {text} {place} {looks} {looks'} l h n =
-    grind (arith, percent_first, same n.skipped, no_escape [] (cleaned (drop (place + 1) text)), no_digit n)
+    grind (arith, percent_first, same n.skipped, no_escape 37 [] (cleaned (drop (place + 1) text)), no_digit n)
 
 -- if there is no digit after the first one, there is no escape
 pub escape_no_low : {text text' : List ℕ} {place value after looks looks' looks'' : ℕ} → text' ≡ text
@@ -134,7 +128,7 @@ pub escape_no_low : {text text' : List ℕ} {place value after looks looks' look
     → NoDigit text' after looks' looks'' → NoEscape text place looks looks''
 escape_no_low {text} {text'} {place} {value} {after} {looks} {looks'} {looks''} e l h d m =
     let n = rw e at m in
-    let none = no_escape (get_or text (after - 1) 0 ∷ []) (cleaned (drop after text)) (omega arith) (no_digit n) in
+    let none = no_escape 37 (get_or text (after - 1) 0 ∷ []) (cleaned (drop after text)) (omega arith) (no_digit n) in
     grind (arith, percent_first, has_digit d, same n.skipped)
 
 -- a digit and a digit after it are an escape
@@ -173,45 +167,27 @@ escape_at text place a b high low w h e f p q l m =
     let second = digit_at text (place + 2) low (place + 3) (omega arith) (omega arith) (rw f at q) m in
     escape_both {text = text} refl (omega arith) h first second
 
--- after a tab or newline, what is found from the next index on is found from its index on
-pub digit_further : {text same : List ℕ} {place looks' : ℕ} (looks looks'' : ℕ) (found : Option (ℕ × ℕ)) → same ≡ text
-    → place < length text → is_tab_or_newline (get_or text place 0) ≡ true → looks' ≡ looks + 1
-    → IsDigitFrom same (place + 1) looks' looks'' found → IsDigitFrom text place looks looks'' found
-digit_further {text} {same} {place} {looks'} looks looks'' None e l code n h = grind arith
-digit_further {text} {same} {place} {looks'} looks looks'' (Some d) e l code n h = grind arith
-
 -- a byte that is not '%' begins no escape
 pub begins_other : (b : ℕ) (s : List ℕ) → (b == 37) ≡ false → begins_with_escape (b ∷ s) ≡ false
 begins_other b [] h = refl
 begins_other b (c ∷ []) h = refl
 begins_other b (c ∷ d ∷ s) h = grind (arith, and_left)
 
--- so none begins at a place of a text where there is no '%'
-pub no_percent : (text : List ℕ) (place : ℕ) → place < length text → (get_or text place 0 == 37) ≡ false
-    → begins_with_escape (drop place text) ≡ false
-no_percent text place l n = rw (drop_more text place 0 l) (begins_other (get_or text place 0) (drop (place + 1) text) n)
+-- no escape begins before bytes of whose codes one is 16 or more
+not_digits : (c a b high low : ℕ) (s : List ℕ) → IsCode a high → IsCode b low → 16 ≤ bit_or high low
+    → begins_with_escape (c ∷ a ∷ b ∷ s) ≡ false
+not_digits c a b high low s p q h = grind (arith, hex_other, or_lt 4 high low, cases_Bool (eqb c 37))
 
--- codes of which one is 16 or more are not both those of digits
-not_digits : (a b high low : ℕ) → IsCode a high → IsCode b low → 16 ≤ bit_or high low
-    → (is_ascii_hexdigit a && is_ascii_hexdigit b) ≡ false
-not_digits a b high low p q h = grind (arith, hex_other, or_lt 4 high low)
-
--- no escape begins before two bytes that are not both digits
-no_digits_at : (text : List ℕ) (place : ℕ) → place + 3 ≤ length text
-    → (is_ascii_hexdigit (get_or text (place + 1) 0) && is_ascii_hexdigit (get_or text (place + 2) 0)) ≡ false
-    → begins_with_escape (drop place text) ≡ false
-no_digits_at text place w n =
-    rw (
-      drop_more text place 0 (omega arith),
-      drop_more text (place + 1) 0 (omega arith),
-      drop_more text (place + 1 + 1) 0 (omega arith),
-    ) (grind arith)
-
--- nor before bytes with such codes
 pub no_digits : (text : List ℕ) (place a b high low : ℕ) → place + 3 ≤ length text → a ≡ get_or text (place + 1) 0
     → b ≡ get_or text (place + 2) 0 → IsCode a high → IsCode b low → 16 ≤ bit_or high low
     → begins_with_escape (drop place text) ≡ false
-no_digits text place a b high low w e f p q h = no_digits_at text place w (rw (e, f) at (not_digits a b high low p q h))
+no_digits text place a b high low w e f p q h =
+    let first = drop_more text place 0 (omega arith) in
+    let second = drop_more text (place + 1) 0 (omega arith) in
+    let third = drop_more text (place + 2) 0 (omega arith) in
+    let two : place + 1 + 1 ≡ place + 2 = omega arith in
+    let three : place + 2 + 1 ≡ place + 3 = omega arith in
+    cc (not_digits (get_or text place 0) a b high low (drop (place + 3) text) p q h)
 
 -- the lemmas for `digit`, `escape` and `escape_here`
-pub ruleset digits = (digit_further, escape_no_high, escape_at, le_or_l, le_or_r, no_percent, no_digits)
+pub ruleset digits = (escape_no_high, escape_at, le_or_l, le_or_r, no_digits)

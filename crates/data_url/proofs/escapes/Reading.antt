@@ -1,22 +1,18 @@
--- What a walk reads between two places of its text, and the bound on how many bytes it reads. For `stop_at`.
-use Rattle.std.proofs.Common.{List, [], ◌∷◌, ◌++◌, length, drop, get_or, refl, ap, ◌∙◌, arith}
-use Rattle.std.proofs.Common.{◌==◌, slice_range}
-use Rattle.std.proofs.Common.{take, append_assoc, length-append}
-use Rattle.std.proofs.Common.{◌≡◌, ℕ, zero, suc, ◌+◌, ◌*◌, ◌-◌, ◌<◌, ◌≤◌, true, false, cond}
-use Rattle.std.{specs.Char.{digit_value}}
+-- What a walk reads between two places of its text, and the bound on how many bytes it reads. For `at_mark`.
+use Rattle.std.proofs.Common.{List, ap, append_assoc, arith, cond, drop, false, get_or, length, length-append, refl}
+use Rattle.std.proofs.Common.{slice_range, suc, take, true, zero, [], ℕ, ◌*◌, ◌++◌, ◌+◌, ◌-◌, ◌<◌, ◌==◌, ◌∙◌, ◌∷◌, ◌≡◌}
+use Rattle.std.proofs.{Common.{◌≤◌}, lemmas.Bool.{cases_Bool}, lemmas.List.Sums.{count_by-le-length, length-filter}}
 use Rattle.std.proofs.lemmas.List.Sums.{prefix_len-drop_no, prefix_len-le-length}
-use Rattle.std.proofs.lemmas.List.Sums.{count_by-le-length, length-filter}
-use Rattle.data_url.specs.{Fetch.{plain_body}, Percent.{begins_with_escape, percent_decoding}, Pieces.{is_slice_end}}
-use Rattle.data_url.specs.Steps.Digits.{EscapeAt, NoEscape, cleaned}
-use Rattle.data_url.specs.{Steps.Looks.{before_percent, paid}, Steps.Tail.{BeginsFragment}, Steps.Window.{is_marked}}
-use Rattle.data_url.specs.Steps.Walk.{IsClear, IsStop, Reads, Spells}
-use Rattle.data_url.specs.Url.{front, is_tab_or_newline, before, without_tabs_and_newlines}
-use Rattle.data_url.specs.declared.escapes.stops.Stop.TheVariants.{Passed, Stays}
-use Rattle.data_url.proofs.{percent.Encoding.{decoded_escape}, texts.Bytes.{after_other}}
-pub use Rattle.std.proofs.lemmas.List.{drop_more, get_or-drop, length-drop, drop-drop, drop_all, drop-take, length-take}
 use Rattle.data_url.proofs.escapes.EscapeDigits.{begins_other, cleaned_hash, cleaned_keeps, cleaned_nil, cleaned_passes}
+use Rattle.data_url.proofs.{percent.Encoding.{decoded_escape}, texts.Bytes.{after_other}}
+use Rattle.data_url.specs.{Fetch.{plain_body}, Percent.{begins_with_escape, percent_decoding}, Pieces.{is_slice_end}}
+use Rattle.data_url.specs.Steps.{Digits.{EscapeAt, NoEscape, cleaned}, Looks.{before_percent, paid}}
+use Rattle.data_url.specs.Steps.{Tail.{BeginsFragment}, Walk.{IsAtMark, IsClear, Reads, Spells}, Window.{is_marked}}
+use Rattle.data_url.specs.Url.{before, front, is_tab_or_newline, without_tabs_and_newlines}
+use Rattle.data_url.specs.declared.escapes.marks.AtMark.TheVariants.{Passed, Stays}
+pub use Rattle.std.proofs.lemmas.List.{drop-drop, drop-take, drop_all, drop_more, get_or-drop, length-drop, length-take}
 
--- What a walk reads between two places of its text, and the bound on how many bytes it reads. For `stop_at`.
+-- What a walk reads between two places of its text, and the bound on how many bytes it reads. For `at_mark`.
 
 -- a body is the percent-decoded cleaned tail
 pub plain_is : (s : List ℕ) → plain_body s ≡ percent_decoding (cleaned s)
@@ -41,12 +37,6 @@ decoded_byte b [] h = refl
 decoded_byte b (c ∷ []) h = refl
 decoded_byte b (c ∷ d ∷ s) h = grind arith
 
--- the text before the first c is not longer than the whole text
-before_shorter : (c : ℕ) (s : List ℕ) → length (before c s) ≤ length s
-unfolding before
-before_shorter c [] = omega arith
-before_shorter c (b ∷ s) = grind (arith, before_shorter c s)
-
 -- a percent-decoded text is not longer than the text
 percent_shorter : (s : List ℕ) → length (percent_decoding s) ≤ length s
 unfolding percent_decoding
@@ -54,16 +44,9 @@ percent_shorter [] = omega arith
 percent_shorter (a ∷ []) = omega arith
 percent_shorter (a ∷ b ∷ []) = omega arith
 percent_shorter (a ∷ b ∷ c ∷ s) =
-    let h = percent_shorter s in
-    let k = percent_shorter (b ∷ c ∷ s) in
-    elim (begins_with_escape (a ∷ b ∷ c ∷ s)) as
-    (λ v. length (cond v ((16 * digit_value b + digit_value c) ∷ percent_decoding s)
-    (a ∷ percent_decoding (b ∷ c ∷ s))) ≤ suc (suc (suc (length s)))) [ true ↦ omega arith | false ↦ omega arith ]
-
--- the body of a tail is not longer than the tail
-pub body_shorter : (tail : List ℕ) → length (plain_body tail) ≤ length tail
-unfolding plain_body front without_tabs_and_newlines
-body_shorter tail = grind (arith, percent_shorter, before_shorter, length-filter, count_by-le-length)
+    let one = percent_shorter s in
+    let more = percent_shorter (b ∷ c ∷ s) in
+    grind (arith, cases_Bool (begins_with_escape (a ∷ b ∷ c ∷ s)))
 
 -- a text is its bytes before the first '#', and then some other text
 before_first : (s : List ℕ) → (rest : List ℕ) × (s ≡ before 35 s ++ rest)
@@ -73,6 +56,14 @@ before_first (b ∷ s) = elim (b == 35) as (λ v. (rest : List ℕ) × (b ∷ s 
   | true ↦ (b ∷ s, refl)
   | false ↦ let k = before_first s in (k.0, ap (λ t. b ∷ t) k.1)
 ]
+
+-- the body of a tail is not longer than the tail
+pub body_shorter : (tail : List ℕ) → length (plain_body tail) ≤ length tail
+unfolding plain_body front without_tabs_and_newlines
+body_shorter tail =
+    let f = before_first (without_tabs_and_newlines tail) in
+    let long = ap length f.1 ∙ length-append (before 35 (without_tabs_and_newlines tail)) f.0 in
+    grind (arith, percent_shorter, length-filter, count_by-le-length)
 
 -- before an escape a slice may end
 pub escape_ends : {text : List ℕ} {place value end : ℕ} → place < length text → EscapeAt text place value end
@@ -160,13 +151,13 @@ pub paid_percent : (text : List ℕ) (place : ℕ) → place < length text → g
 paid_percent text place l h = grind (arith, prefix_len-drop_no)
 
 -- a '%' without an escape stays, and pays for the bytes that were read after it
-pub stop_percent : {text : List ℕ} {place looks looks' : ℕ} → place < length text → get_or text place 0 ≡ 37
-    → NoEscape text place (looks + 1) looks' → IsStop text place looks looks' Stays
-stop_percent {text} {place} {looks} {looks'} l h n = search (arith, paid_percent, spells_percent)
+pub at_percent : {text : List ℕ} {place looks looks' : ℕ} → place < length text → get_or text place 0 ≡ 37
+    → NoEscape text place (looks + 1) looks' → IsAtMark text place looks looks' Stays
+at_percent {text} {place} {looks} {looks'} l h n = search (arith, paid_percent, spells_percent)
 
 -- a tab or newline is passed, and pays for one look
-pub stop_passed : (text : List ℕ) (place looks : ℕ) → place < length text
-    → is_tab_or_newline (get_or text place 0) ≡ true → IsStop text place looks (looks + 1) Passed
-stop_passed text place looks l h =
+pub at_tab : (text : List ℕ) (place looks : ℕ) → place < length text
+    → is_tab_or_newline (get_or text place 0) ≡ true → IsAtMark text place looks (looks + 1) Passed
+at_tab text place looks l h =
     let p = paid_on text place (place + 1) (omega arith) in
     (grind (arith, drop_more), spells_passed text place l h, grind arith)

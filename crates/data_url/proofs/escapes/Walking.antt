@@ -2,7 +2,7 @@
 use Rattle.std.proofs.Common.{Some, refl, sym, ap, ◌∙◌, inl, inr, arith, length-append, Bool, ◌≢◌, Option, ◌*◌, cond}
 use Rattle.std.proofs.Common.{drop-drop, length-drop, append-nil, ◌≡◌, ℕ, ◌+◌, ◌-◌, ◌<◌, ◌≤◌, true, List, [], ◌∷◌, ◌++◌}
 use Rattle.std.proofs.Common.{length, take, drop, get_or, None, length-take-le, take-append-drop, set, append_assoc}
-use Rattle.std.{proofs.Common.{take-add, slice_range, IfNone}, proofs.lemmas.Str.{IsCharBoundary-after_ascii}}
+use Rattle.std.{proofs.Common.{take-add, slice_range}, proofs.lemmas.Str.{IsCharBoundary-after_ascii}}
 use Rattle.std.proofs.lemmas.List.{drop_more, drop_all, take_more_set, append_cancel_right}
 use Rattle.data_url.specs.{Fetch.{plain_body}, Steps.Digits.{EscapeAt, cleaned}, declared.escapes.Piece.{Piece}}
 use Rattle.data_url.specs.Pieces.{Walk, text_of, IsStretch, bytes_of, has_ended, is_slice_end, walk_of}
@@ -12,12 +12,12 @@ use Rattle.data_url.specs.Steps.Chunks.{IsBodyPrefix, IsOver, Takes}
 use Rattle.data_url.proofs.escapes.Reading.{body_shorter}
 use Rattle.data_url.specs.Steps.Tail.{BeginsFragment, IsBodyEnd, rest_fragment}
 use Rattle.data_url.specs.Steps.Walk.{Ended, EndsAt, Gathers, GoesOn, IsClear, IsNextMark, IsPart, Knows, KnowsAhead}
-use Rattle.data_url.specs.Steps.Walk.{Looking, LooksOn, MayGather, Moves, Pays, Reads, Searching, Spells}
+use Rattle.data_url.specs.Steps.Walk.{Looking, LooksOn, MayGather, Pays, Reads, Searching, Spells}
 use Rattle.data_url.specs.{Url.{before, after, front, without_tabs_and_newlines}, declared.escapes.cursor.Ahead.{Ahead}}
 use Rattle.data_url.specs.{declared.escapes.Piece.TheVariants.{Byte, Slice}, declared.escapes.cursor.Cursor.{Cursor}}
 use Rattle.data_url.specs.declared.escapes.cursor.Ahead.TheVariants.{AfterEscape, End, Escape, Unknown}
-use Rattle.data_url.specs.{declared.escapes.source.Source.{Source}, declared.escapes.stops.Block.{Block}}
-use Rattle.data_url.proofs.escapes.BlockMarks.{copied_wide, looking_on, padded_is}
+use Rattle.data_url.specs.{declared.escapes.source.Source.{Source}, declared.escapes.marks.Block.{Block}}
+use Rattle.data_url.proofs.escapes.BlockMarks.{copied_wide, looking_on, marks_padded, padded_is}
 use Rattle.data_url.proofs.escapes.Reading.{ends_empty, paid_le, paid_on}
 use Rattle.data_url.proofs.escapes.Reading.{percent_nil, spells_clear, spells_escape, spells_none, spells_then}
 use Rattle.data_url.proofs.{percent.Encoding.{decoded_escape}, runs.Runs.{none_or_some}}
@@ -116,10 +116,6 @@ byte_next {c} {c'} {value} {end} q on e = goes_part refl (byte_part (grind (arit
 pub looking_escape : {s s' : Source} {b : Block} {place : ℕ} → Looking s b place 3 → s'.text.now ≡ s.text.now
     → s'.looks ≤ s.looks + 3 → place + 3 ≤ length s.text.now → Looking s' b (place + 3) 3
 looking_escape {s} {s'} {b} {place} k t l w = let p = paid_on s.text.now place (place + 3) (omega arith) in grind arith
-
--- what is true of every walk stays true if the walk goes on, and what its `ahead` says is true
-pub knows_on : {c c' : Cursor} {next : Option Piece} → Knows c → GoesOn c next c' → KnowsAhead c' c'.ahead → Knows c'
-knows_on {c} {c'} {next} k g a = let text = g.on.text_stays in record { after_is = cc; ahead_is = a }
 
 -- a walk that stops at the end of the body ends there
 pub ended_at : {c : Cursor} {s : Source} {b : Block} {mark : ℕ} → Looking s b mark 0 → c.source.text.now ≡ s.text.now
@@ -222,21 +218,9 @@ gathers_escape g on e l = gathers_then g (gathers_byte on (spells_escape e).read
 abbrev pub measure : ℕ → ℕ → Bool → ℕ
 measure total place ended = 2 * (total - place) + cond ended 0 1
 
--- gathering bytes makes the measure smaller, if the walk moves or ends
-pub smaller : (c0 : Cursor) {c1 c' : Cursor} {room room' : List ℕ} {len len' : ℕ} (total : ℕ) → c0.ahead ≡ Unknown
-    → c1.place ≡ c0.place → length (text_of c1) ≡ total → Moves c1 c' → Gathers c1 c' room room' len len'
-    → measure total c'.place (has_ended c'.ahead) < measure total c0.place (has_ended c0.ahead)
-smaller c0 {c1} {c'} {room} {room'} {len} {len'} total u p t m g = grind arith
-
 -- where a walk has ended, nothing of the body is left
 pub rest_over : {c : Cursor} → Knows c → has_ended c.ahead ≡ true → plain_body (drop c.place (text_of c)) ≡ []
 rest_over {c} k e = grind (arith, ends_empty, ended_of)
-
--- if there is no next piece, nothing of the body is left
-pub over_rest : (next : Option Piece) {c c' : Cursor} → GoesOn c next c' → Knows c'
-    → IfNone next (plain_body (drop c'.place (text_of c')) ≡ [])
-over_rest None g k = rest_over k g.ended
-over_rest (Some p) g k = tt
 
 -- a piece has at least one byte
 piece_some : (p : Piece) {c c' : Cursor} → GoesOn c (Some p) c' → 0 < length (bytes_of p)
@@ -274,13 +258,13 @@ over_next {c} {c1} {c2} g e h k = grind (arith, rest_over)
 pub ruleset stretches = (looking_escape, looking_paid, byte_part, byte_next, goes_part, slice_part, searched)
 
 -- the lemmas for the functions that gather bytes
-pub ruleset gathering = (gathers_byte, gathers_nothing, gathers_then, gathers_escape, reads_escape, ended_at, smaller)
+pub ruleset gathering = (gathers_byte, gathers_nothing, gathers_then, gathers_escape, reads_escape, ended_at)
 
 -- the lemmas for `Cursor`
-pub ruleset walks = (stretches, gathering, knows_on, ahead_is, spells_none, spells_then)
+pub ruleset walks = (stretches, gathering, marks_padded, spells_none, spells_then)
 
 -- the lemmas for `Source`
-pub ruleset sources = (copied_wide, padded_is, hash_at, drop_all, IsCharBoundary-after_ascii)
+pub ruleset sources = (copied_wide, marks_padded, padded_is, hash_at, drop_all, IsCharBoundary-after_ascii)
 
 -- the lemmas for `Pieces`
-pub ruleset walking = (body_end, rest_over, over_rest, again, few_looks)
+pub ruleset walking = (body_end, rest_over, again, few_looks)

@@ -1,12 +1,12 @@
 -- Blocks of 64 symbols in vectors. For `blocks.rt` and `lanes.rt`.
 use Rattle.std.proofs.Common.{List, [], ◌∷◌, ◌++◌, map, ◌≡◌, ℕ, ◌<◌, ltb, true, cond, eqb, get_or}
 use Rattle.std.proofs.Common.{length, take, Fits, w8, ap, ◌+◌}
-use Rattle.std.proofs.Common.{◌%◌, ◌^◌, Bool, not, refl, sym, ◌∙◌, ap₂, arith, suc, zero, take_all}
+use Rattle.std.proofs.Common.{◌%◌, Bool, not, refl, sym, ◌∙◌, ap₂, arith, suc, zero, take_all}
 use Rattle.std.{proofs.Common.{◌&&◌, bit_or}}
 use Rattle.std.{specs.List.{list_all}}
 use Rattle.std.proofs.lemmas.Bool.{agree_below_at, and_parts, eqb-true, ltb-true, cases_eq, ne_eqb}
 use Rattle.std.proofs.lemmas.List.{nil_from_length}
-use Rattle.std.proofs.lemmas.Nat.{and_le_r, and_le_l, mod-pow-add}
+use Rattle.std.proofs.lemmas.Nat.{and_le_r, and_le_l}
 use Rattle.std.proofs.lemmas.Simd.{zip2_of_maps}
 use Rattle.std.specs.Char.{is_ascii_whitespace as std_whitespace, is_ascii_whitespace}
 use Rattle.data_url.specs.Base64.{is_symbol, symbol_value, groups, after_groups}

@@ -1,23 +1,10 @@
 -- The escapes of a block of text, and what its lanes compute.
-use Rattle.std.specs.Char.{digit_value, is_ascii_hexdigit}
-use Rattle.std.specs.Prelude.{[], if◌then◌else◌, ◌&&◌, ◌%◌, ◌*◌, ◌++◌, ◌+◌, ◌/◌, ◌<◌, ◌==◌, ◌^◌}
-use Rattle.std.specs.Prelude.{◌||◌, ◌∷◌, ◌≡◌, ◌≤◌, Bool, List, false, map, take, true, ℕ}
+use Rattle.std.specs.{Char.{digit_value}, List.{prefix_len}}
+use Rattle.std.specs.Prelude.{[], if◌then◌else◌, ◌&&◌, ◌*◌, ◌++◌, ◌+◌, ◌==◌, ◌||◌, ◌∷◌, ◌≡◌, ◌≤◌, Bool, List, map, min, not, take, true, ℕ}
 use Rattle.std.specs.Simd.Lanes.{mask_l}
 use Rattle.data_url.specs.Percent.{begins_with_escape}
 use Rattle.data_url.specs.Steps.Groups.{clear}
 use Rattle.data_url.specs.Url.{is_tab_or_newline, number_sign, percent_sign}
-
--- the value of a hexadecimal digit, and 16 or more for any other byte
-pub record IsHexCode (b code : ℕ) : Type 0 where
-  pub digit : is_ascii_hexdigit b ≡ true → (code ≡ digit_value b) × (code < 16)
-  pub other : is_ascii_hexdigit b ≡ false → 16 ≤ code
-
--- such a code for each byte
-abbrev pub AreHexCodes : List ℕ → List ℕ → Type 0
-AreHexCodes [] [] = Unit {0}
-AreHexCodes [] (code ∷ codes) = ⊥
-AreHexCodes (b ∷ s) [] = ⊥
-AreHexCodes (b ∷ s) (code ∷ codes) = IsHexCode b code × AreHexCodes s codes
 
 -- for each byte of a text, whether an escape begins there
 abbrev pub escape_starts : List ℕ → List Bool
@@ -58,8 +45,6 @@ packed_values bytes used =
 -- `end` bytes then
 pub record IsPacked (bytes : List ℕ) (size : ℕ) (room room' : List ℕ) (len used end : ℕ) : Type 0 where
   pub some : 12 ≤ used
-  pub few : used ≤ size
-  pub none : mask_l (stops bytes) % 2 ^ used ≡ 0
-  pub stop : used < size → mask_l (stops bytes) / 2 ^ used % 2 ≡ 1
+  pub used_is : used ≡ min size (prefix_len not (stops bytes))
   pub short : end ≤ len + 64
   pub room_is : take end room' ≡ take len room ++ packed_values bytes used

@@ -13,9 +13,9 @@ use Rattle.data_url.specs.declared.escapes.Piece.{Piece}
 use Rattle.data_url.specs.declared.escapes.cursor.Ahead.TheVariants.{AfterEscape, End, Escape, Unknown}
 use Rattle.data_url.specs.declared.escapes.cursor.Ahead.{Ahead}
 use Rattle.data_url.specs.declared.escapes.cursor.Cursor.{Cursor}
-use Rattle.data_url.specs.declared.escapes.stops.Block.{Block}
-use Rattle.data_url.specs.declared.escapes.stops.Stop.TheVariants as stop
-use Rattle.data_url.specs.declared.escapes.stops.Stop.{Stop}
+use Rattle.data_url.specs.declared.escapes.marks.Block.{Block}
+use Rattle.data_url.specs.declared.escapes.marks.AtMark.TheVariants as at_mark
+use Rattle.data_url.specs.declared.escapes.marks.AtMark.{AtMark}
 use Rattle.data_url.specs.declared.escapes.source.Source.{Source}
 
 -- Texts
@@ -60,15 +60,15 @@ pub record Pays (text : List ℕ) (from to looks looks' more : ℕ) : Type 0 whe
   pub looks_are : looks' + more + paid text from ≤ looks + paid text to
 
 -- what is at a marked byte, or that the text ends there; but for a '%', a slice may end there
-abbrev pub IsStop : List ℕ → ℕ → ℕ → ℕ → Stop → Type 0
-IsStop text mark looks looks' stop.Stays = (slice_index text mark ≡ percent_sign)
+abbrev pub IsAtMark : List ℕ → ℕ → ℕ → ℕ → AtMark → Type 0
+IsAtMark text mark looks looks' at_mark.Stays = (slice_index text mark ≡ percent_sign)
     × Spells text mark (mark + 1) (percent_sign ∷ []) (percent_sign ∷ [])
     × Pays text mark (mark + 1) looks looks' 0
-IsStop text mark looks looks' stop.Passed = (is_slice_end (drop mark text) ≡ true)
+IsAtMark text mark looks looks' at_mark.Passed = (is_slice_end (drop mark text) ≡ true)
     × Spells text mark (mark + 1) [] [] × Pays text mark (mark + 1) looks looks' 0
-IsStop text mark looks looks' (stop.Escape value end) = (is_slice_end (drop mark text) ≡ true)
+IsAtMark text mark looks looks' (at_mark.Escape value end) = (is_slice_end (drop mark text) ≡ true)
     × EscapeAt text mark value end × Pays text mark end looks looks' 3
-IsStop text mark looks looks' stop.End = (is_slice_end (drop mark text) ≡ true) × EndsAt text mark
+IsAtMark text mark looks looks' at_mark.End = (is_slice_end (drop mark text) ≡ true) × EndsAt text mark
     × (looks' + mark ≤ looks + length text)
 
 -- Walks
@@ -159,9 +159,9 @@ IsWide c is_followed = is_followed ≡ true → c.block.seen + 64 ≤ length (te
 
 -- the block that was read last begins at the walk's index, and these are its 64 bytes
 pub record IsWhole (c : Cursor) (bytes : List ℕ) : Type 0 where
-  pub base_is : c.block.base ≡ c.place
   pub seen_is : c.block.seen ≡ c.place + 64
   pub bytes_are : bytes ≡ take 64 (drop c.place (text_of c))
+  pub marks_are : c.block.marks ≡ mask_l (map is_marked bytes)
 
 -- a walk gathers bytes, and can gather more
 pub record Gathered (c c' : Cursor) (room room' : List ℕ) (len len' : ℕ) : Type 0 where

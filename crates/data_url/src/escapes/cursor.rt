@@ -2,15 +2,14 @@
 
 #![tactic(auto, using(crate::proofs::escapes::Walking::walks))]
 
-ghost use Rattle.std.specs.Prelude.{ℕ, [], ◌≡◌, ◌+◌, ◌<◌, ◌≤◌, drop, false, length, true};
+ghost use Rattle.std.specs.Prelude.{◌≡◌, ◌≤◌, drop, length};
 ghost use Rattle.data_url.specs.Url.{after, number_sign};
-ghost use Rattle.data_url.specs.Pieces.{is_slice_end, text_of, walk_at_start, walk_of};
-ghost use Rattle.data_url.specs.Steps.Chunks.{IsBodyFrom, IsBodyPrefix};
-ghost use Rattle.data_url.specs.Steps.Walk.{Gathering, GoesOn, IsPart, Knows, KnowsAhead, Looking, Searching, Spells};
+ghost use Rattle.data_url.specs.{Pieces.{text_of, walk_at_start, walk_of}, Steps.Chunks.{IsBodyFrom, IsBodyPrefix}};
+ghost use Rattle.data_url.specs.Steps.Walk.{GoesOn, Knows, KnowsAhead, Looking};
 
 use super::Piece;
+use super::marks::{AtMark, Block};
 use super::source::Source;
-use super::stops::{Block, Stop};
 
 /// How many bytes an escape has, without tabs and newlines.
 pub(super) const ESCAPE: usize = 3;
@@ -82,7 +81,7 @@ impl<'a> Cursor<'a> {
     }
 
     /// The bytes before the first marked byte. The walk goes there. If the first byte is a `%`, it is read by itself, so that the
-    /// bytes after its escape can be packed.
+    /// bytes after its escape can be packed: it is a block. The look at another first byte does not count against the bound.
     #[inline(always)]
     pub(super) fn next_prefix(&mut self) -> &'a [u8]
         requires start { self.old.place ≡ 0 }
@@ -90,7 +89,12 @@ impl<'a> Cursor<'a> {
         ensures prefix { IsBodyPrefix (text_of self.old) result.now (walk_of self.new) }
         ensures knows { Knows self.new }
     {
-        self.block = self.source.look_first();
+        let is_percent = self.source.len() > 0 && self.source.look(0) == b'%';
+        self.block = Block {
+            base: 0,
+            seen: usize::from(is_percent),
+            marks: u64::from(is_percent),
+        };
         let mark = self.block.next_mark(&mut self.source, 0);
         self.place = mark;
         self.ahead = if mark == self.source.len() {
@@ -136,60 +140,37 @@ impl<'a> Cursor<'a> {
         let mut from = self.place;
         loop {
             let mark = self.block.next_mark(&mut self.source, from);
-            match self.source.stop_at(mark, false) {
-                Stop::Stays => from = mark + 1,
-                Stop::Passed if mark == self.place => {
-                    self.place = mark + 1;
+            let place = self.place;
+            let slice = self.source.cut(place, mark);
+            match self.source.at_mark(mark, false) {
+                AtMark::Stays => from = mark + 1,
+                AtMark::Passed => {
                     from = mark + 1;
+                    self.place = from;
+                    if place < mark {
+                        self.ahead = Ahead::Unknown;
+                        return Some(Piece::Slice(slice));
+                    }
                 }
-                Stop::Passed => return Some(self.slice_to(mark, mark + 1, Ahead::Unknown)),
-                Stop::Escape(value, end) if mark == self.place => {
+                AtMark::Escape(value, end) if mark == place => {
                     self.place = end;
                     self.ahead = Ahead::AfterEscape;
                     return Some(Piece::Byte(value));
                 }
-                Stop::Escape(value, end) => {
-                    return Some(self.slice_to(mark, mark, Ahead::Escape(value, end)));
+                AtMark::Escape(value, end) => {
+                    self.place = mark;
+                    self.ahead = Ahead::Escape(value, end);
+                    return Some(Piece::Slice(slice));
                 }
-                Stop::End if mark == self.place => {
+                AtMark::End => {
+                    self.place = mark;
                     self.ahead = Ahead::End;
-                    return None;
+                    if mark == place {
+                        return None;
+                    }
+                    return Some(Piece::Slice(slice));
                 }
-                Stop::End => return Some(self.slice_to(mark, mark, Ahead::End)),
             }
         }
-    }
-
-    /// The stretch from the place up to a mark. The walk goes on at another place, of which something is known.
-    #[inline(always)]
-    fn slice_to(&mut self, mark: usize, next: usize, ahead: Ahead) -> Piece<'a>
-        requires some { self.old.place < mark }
-        requires ends { is_slice_end (drop mark (text_of self.old)) ≡ true }
-        requires after { Spells (text_of self.old) mark next [] [] }
-        ensures walk { self.new ≡ record self.old { place = next; ahead = ahead } }
-        ensures part { (from : ℕ) → Searching (text_of self.old) from self.old.place mark
-            → IsPart (text_of self.old) from next result }
-    {
-        let slice = self.source.cut(self.place, mark);
-        self.place = next;
-        self.ahead = ahead;
-        Piece::Slice(slice)
-    }
-
-    /// Returns whether the body ends at the place.
-    #[inline(always)]
-    pub(super) fn is_over(&mut self) -> bool
-        requires gathering { Gathering self.old }
-        ensures gathering { Gathering self.new }
-        ensures source { self.new.source ≡ self.old.source }
-        ensures place { self.new.place ≡ self.old.place }
-        ensures more { result ≡ false → (self.new ≡ self.old) × (self.old.ahead ≡ Ahead.Unknown)
-            × (self.old.place < length (text_of self.old)) }
-    {
-        if !matches!(self.ahead, Ahead::End) && self.place < self.source.len() {
-            return false;
-        }
-        self.ahead = Ahead::End;
-        true
     }
 }

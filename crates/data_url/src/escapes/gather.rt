@@ -2,35 +2,44 @@
 
 #![tactic(auto, using(crate::proofs::escapes::Walking::walks))]
 
-ghost use Rattle.std.specs.Prelude.{◌≡◌, ◌+◌, ◌<◌, ◌≤◌, IfSome, false, length, slice_index, true};
-ghost use Rattle.std.specs.Option.{option_map_or};
-ghost use Rattle.data_url.specs.Pieces.{text_of, walk_of};
-ghost use Rattle.data_url.specs.Steps.Chunks.{GivesBytes};
-ghost use Rattle.data_url.specs.Steps.Walk.{Gathered, Gathering, Gathers, HasRoom, IsGathered, IsWide};
-ghost use Rattle.data_url.specs.Steps.Walk.{Knows, KnowsAhead, Looking, MayGather, Moves};
-ghost use Rattle.data_url.specs.Steps.Window.{is_marked};
+ghost use Rattle.std.specs.{Option.{option_map_or}, Prelude.{◌≡◌, ◌<◌, ◌≤◌, IfSome, slice_index, true}};
+ghost use Rattle.data_url.specs.{Pieces.{text_of, walk_of}, Steps.Chunks.{GivesBytes}, Steps.Window.{is_marked}};
+ghost use Rattle.data_url.specs.Steps.Walk.{Gathered, Gathering, Gathers, HasRoom, IsGathered, IsWide, Knows, Looking, MayGather, Moves};
 
 use super::Piece;
 use super::cursor::{Ahead, Cursor, ESCAPE};
 use super::lanes::BLOCK;
+use super::marks::AtMark;
 use super::pack::SEVERAL;
-use super::stops::Stop;
 
 /// How many bytes the buffer holds in which short stretches and values of escapes are gathered.
 pub(crate) const BUFFER_LEN: usize = 512;
+
+/// That buffer.
+pub(super) type Buffer = [u8; BUFFER_LEN];
 
 impl<'a> Cursor<'a> {
     /// The next bytes: a long stretch of the text, or shorter ones and the values of escapes, gathered in a buffer.
     /// Returns None at the end of the body.
     #[inline(always)]
-    pub(super) fn next_bytes<'r>(&mut self, room: &'r mut [u8; BUFFER_LEN]) -> Option<&'r [u8]>
+    pub(super) fn next_bytes<'r>(&mut self, room: &'r mut Buffer) -> Option<&'r [u8]>
     where
         'a: 'r,
         requires { Knows self.old }
         ensures gives { GivesBytes (walk_of self.old) result (walk_of self.new) }
         ensures knows { Knows self.new }
     {
-        let mut len = self.gather_known(room);
+        let mut len = 0;
+        match self.ahead {
+            Ahead::Escape(value, end) => {
+                room[0] = value;
+                len = 1;
+                self.place = end;
+                self.ahead = Ahead::Unknown;
+            }
+            Ahead::AfterEscape => self.ahead = Ahead::Unknown,
+            Ahead::Unknown | Ahead::End => {}
+        }
         while len <= BUFFER_LEN - 2 * BLOCK {
             let Some(more) = self.gather_more(room, len) else {
                 break;
@@ -50,31 +59,10 @@ impl<'a> Cursor<'a> {
         }
     }
 
-    /// Gathers the escape that is known to be at the place. Returns how many bytes are gathered then, 0 or 1.
-    #[inline(always)]
-    fn gather_known(&mut self, room: &mut [u8; BUFFER_LEN]) -> usize
-        requires { KnowsAhead self.old self.old.ahead }
-        ensures { Gathered self.old self.new room.old room.new 0 result }
-    {
-        match self.ahead {
-            Ahead::Escape(value, end) => {
-                room[0] = value;
-                self.place = end;
-                self.ahead = Ahead::Unknown;
-                1
-            }
-            Ahead::AfterEscape => {
-                self.ahead = Ahead::Unknown;
-                0
-            }
-            Ahead::Unknown | Ahead::End => 0,
-        }
-    }
-
     /// Gathers the next block, or what is left of the last one, after the bytes that were gathered before. Returns how many
     /// bytes are gathered then, or None if the body ends or a long stretch begins.
     #[inline(always)]
-    fn gather_more(&mut self, room: &mut [u8; BUFFER_LEN], len: usize) -> Option<usize>
+    fn gather_more(&mut self, room: &mut Buffer, len: usize) -> Option<usize>
         requires gathering { Gathering self.old }
         requires room { len ≤ 384 }
         ensures gathered { Gathered self.old self.new room.old room.new len
@@ -82,14 +70,21 @@ impl<'a> Cursor<'a> {
         ensures moves { IfSome result (λ _. Moves self.old self.new
             × (self.old.ahead ≡ Ahead.Unknown)) }
     {
-        if self.is_over() {
+        if !matches!(self.ahead, Ahead::Unknown) {
+            return None;
+        }
+        if self.place >= self.source.len() {
+            self.ahead = Ahead::End;
             return None;
         }
         if self.place >= self.block.seen {
             if self.source.len() - self.place >= 2 * BLOCK {
                 let bytes = self.look_whole();
                 if self.block.marks.count_ones() < SEVERAL {
-                    return self.gather_sparse(room, len);
+                    if len == 0 && self.block.marks == 0 {
+                        return None;
+                    }
+                    return Some(self.gather_block(room, len, true));
                 }
                 if let Some(more) = self.pack_whole(bytes, room, len) {
                     return Some(more);
@@ -109,27 +104,10 @@ impl<'a> Cursor<'a> {
         })
     }
 
-    /// Gathers a block with few marks, which another block follows, after the bytes that were gathered before. Returns how many
-    /// bytes are gathered then, or None if a long stretch begins.
-    #[inline(always)]
-    fn gather_sparse(&mut self, room: &mut [u8; BUFFER_LEN], len: usize) -> Option<usize>
-        requires may { MayGather self.old len }
-        requires here { self.old.place < self.old.block.seen }
-        requires wide { IsWide self.old true }
-        ensures gathered { Gathered self.old self.new room.old room.new len
-            (option_map_or (λ n. n) result len) }
-        ensures moves { IfSome result (λ _. Moves self.old self.new) }
-    {
-        if len == 0 && self.block.marks == 0 {
-            return None;
-        }
-        Some(self.gather_block(room, len, true))
-    }
-
     /// Gathers the rest of the block that was read, after the bytes that were gathered before. If the block `is_followed` by
     /// another one, whole blocks are copied. Otherwise escapes that follow one another are gathered without a look for marks.
     #[inline(always)]
-    fn gather_block(&mut self, room: &mut [u8; BUFFER_LEN], len: usize, is_followed: bool) -> usize
+    fn gather_block(&mut self, room: &mut Buffer, len: usize, is_followed: bool) -> usize
         requires may { MayGather self.old len }
         requires here { self.old.place < self.old.block.seen }
         requires wide { IsWide self.old is_followed }
@@ -147,7 +125,7 @@ impl<'a> Cursor<'a> {
             };
             self.source.copy(place, mark, room, len, is_followed);
             self.place = mark;
-            let (more, ended) = self.gather_stop(room, len + (mark - place), is_followed);
+            let (more, ended) = self.gather_mark(room, len + (mark - place), is_followed);
             len = more;
             if ended {
                 return len;
@@ -158,12 +136,7 @@ impl<'a> Cursor<'a> {
 
     /// Gathers what begins at the mark at the place. Returns how many bytes are gathered then, and whether the body ends.
     #[inline(always)]
-    fn gather_stop(
-        &mut self,
-        room: &mut [u8; BUFFER_LEN],
-        len: usize,
-        is_followed: bool,
-    ) -> (usize, bool)
+    fn gather_mark(&mut self, room: &mut Buffer, len: usize, is_followed: bool) -> (usize, bool)
         requires may { MayGather self.old len }
         requires here { self.old.place < self.old.block.seen }
         requires wide { IsWide self.old is_followed }
@@ -172,17 +145,17 @@ impl<'a> Cursor<'a> {
         ensures goes { IsGathered self.old self.new result.0 result.1 }
     {
         let mark = self.place;
-        match self.source.stop_at(mark, is_followed) {
-            Stop::Stays => {
+        match self.source.at_mark(mark, is_followed) {
+            AtMark::Stays => {
                 room[len] = b'%';
                 self.place = mark + 1;
                 (len + 1, false)
             }
-            Stop::Passed => {
+            AtMark::Passed => {
                 self.place = mark + 1;
                 (len, false)
             }
-            Stop::Escape(value, end) => {
+            AtMark::Escape(value, end) => {
                 room[len] = value;
                 self.place = end;
                 let len = if is_followed {
@@ -192,7 +165,7 @@ impl<'a> Cursor<'a> {
                 };
                 (len, false)
             }
-            Stop::End => {
+            AtMark::End => {
                 self.ahead = Ahead::End;
                 (len, true)
             }
@@ -201,7 +174,7 @@ impl<'a> Cursor<'a> {
 
     /// Gathers the values of escapes that follow one another after an escape.
     #[inline(always)]
-    fn gather_escapes(&mut self, room: &mut [u8; BUFFER_LEN], len: usize) -> usize
+    fn gather_escapes(&mut self, room: &mut Buffer, len: usize) -> usize
         requires unknown { self.old.ahead ≡ Ahead.Unknown }
         requires looking { Looking self.old.source self.old.block self.old.place 3 }
         requires room { HasRoom self.old len }

@@ -2,9 +2,9 @@
 
 #![tactic(auto, using(crate::proofs::escapes::BlockMarks::marks))]
 
-ghost use Rattle.std.specs.Prelude.{◌≡◌, ◌%◌, ◌/◌, ◌==◌, ◌^◌, ◌<◌, ◌≤◌, map};
+ghost use Rattle.std.specs.Prelude.{◌≡◌, ◌==◌, map};
 ghost use Rattle.std.specs.Simd.Lanes.{mask_l};
-ghost use Rattle.data_url.specs.Steps.Escapes.{AreHexCodes, escape_starts, place_values, stops};
+ghost use Rattle.data_url.specs.Steps.Escapes.{escape_starts, place_values, stops};
 ghost use Rattle.data_url.specs.Steps.Window.{is_marked};
 ghost use Rattle.data_url.specs.Url.{is_tab_or_newline, percent_sign};
 
@@ -36,38 +36,22 @@ pub(super) fn marks_of(bytes: u8x64, sparse: bool) -> u64
 }
 
 /// The places after those of a block.
-#[rattlefmt::skip]
 const NEXT: [usize; 64] = [
-    1, 2, 3, 4, 5, 6, 7, 8, 9, 10, 11, 12, 13, 14, 15, 16,
-    17, 18, 19, 20, 21, 22, 23, 24, 25, 26, 27, 28, 29, 30, 31, 32,
-    33, 34, 35, 36, 37, 38, 39, 40, 41, 42, 43, 44, 45, 46, 47, 48,
-    49, 50, 51, 52, 53, 54, 55, 56, 57, 58, 59, 60, 61, 62, 63, 64,
+    1, 2, 3, 4, 5, 6, 7, 8, 9, 10, 11, 12, 13, 14, 15, 16, 17, 18, 19, 20, 21, 22, 23, 24, 25, 26,
+    27, 28, 29, 30, 31, 32, 33, 34, 35, 36, 37, 38, 39, 40, 41, 42, 43, 44, 45, 46, 47, 48, 49, 50,
+    51, 52, 53, 54, 55, 56, 57, 58, 59, 60, 61, 62, 63, 64,
 ];
 
 /// The places two after those of a block.
-#[rattlefmt::skip]
 const SECOND: [usize; 64] = [
-    2, 3, 4, 5, 6, 7, 8, 9, 10, 11, 12, 13, 14, 15, 16, 17,
-    18, 19, 20, 21, 22, 23, 24, 25, 26, 27, 28, 29, 30, 31, 32, 33,
-    34, 35, 36, 37, 38, 39, 40, 41, 42, 43, 44, 45, 46, 47, 48, 49,
-    50, 51, 52, 53, 54, 55, 56, 57, 58, 59, 60, 61, 62, 63, 64, 65,
+    2, 3, 4, 5, 6, 7, 8, 9, 10, 11, 12, 13, 14, 15, 16, 17, 18, 19, 20, 21, 22, 23, 24, 25, 26, 27,
+    28, 29, 30, 31, 32, 33, 34, 35, 36, 37, 38, 39, 40, 41, 42, 43, 44, 45, 46, 47, 48, 49, 50, 51,
+    52, 53, 54, 55, 56, 57, 58, 59, 60, 61, 62, 63, 64, 65,
 ];
 
-/// Returns the value of each hexadecimal digit, and 16 or more for any other byte. In `digits` only digits are less than 16,
-/// and in `letters` only letters.
-#[inline(always)]
-fn hex_codes(bytes: u8x64) -> u8x64
-    ensures { AreHexCodes bytes result }
-{
-    let last = bytes + u8x64::splat(255 - b'9');
-    let digits = last.saturating_sub(u8x64::splat(6)) - u8x64::splat(240);
-    let upper = (bytes & u8x64::splat(223)) - u8x64::splat(b'A');
-    let letters = upper.simd_min(u8x64::splat(245)) + u8x64::splat(10);
-    digits.simd_min(letters)
-}
-
 /// Returns the value of the escape that begins at each byte, or the byte if none does, and a bit for each byte at which an
-/// escape begins that ends in the block. `percents` has a bit for each `%`.
+/// escape begins that ends in the block. `percents` has a bit for each `%`. Of the `codes`, which are the values of hexadecimal
+/// digits, and 16 or more for any other byte, `digits` has those of digits, and `letters` those of letters.
 #[inline(always)]
 pub(super) fn decode_escapes(bytes: u8x64, percents: u64) -> (u8x64, u64)
     requires { percents ≡ mask_l (map (λ b. b == percent_sign) bytes) }
@@ -77,7 +61,11 @@ pub(super) fn decode_escapes(bytes: u8x64, percents: u64) -> (u8x64, u64)
     if percents == 0 {
         return (bytes, 0);
     }
-    let codes = hex_codes(bytes);
+    let last = bytes + u8x64::splat(255 - b'9');
+    let digits = last.saturating_sub(u8x64::splat(6)) - u8x64::splat(240);
+    let upper = (bytes & u8x64::splat(223)) - u8x64::splat(b'A');
+    let letters = upper.simd_min(u8x64::splat(245)) + u8x64::splat(10);
+    let codes = digits.simd_min(letters);
     let high = codes.shuffle(u8x64::splat(255), NEXT);
     let low = codes.shuffle(u8x64::splat(255), SECOND);
     let starts = bytes
@@ -88,14 +76,6 @@ pub(super) fn decode_escapes(bytes: u8x64, percents: u64) -> (u8x64, u64)
     (starts.select(values, bytes), starts.to_bitmask())
 }
 
-/// Returns a bit for each byte of a block that is equal to `byte`.
-#[inline(always)]
-pub(super) fn bits_of(bytes: u8x64, byte: u8) -> u64
-    ensures { result ≡ mask_l (map (λ b. b == byte) bytes) }
-{
-    bytes.simd_eq(u8x64::splat(byte)).to_bitmask()
-}
-
 /// The bits of the last two bytes of a block.
 const LAST_TWO: u64 = 3 << 62;
 
@@ -103,6 +83,7 @@ const LAST_TWO: u64 = 3 << 62;
 /// a `#`, and a `%` that has a tab or newline in the two bytes after it or is one of the last two bytes. `marks` has a bit for
 /// each mark, and `percents` one for each `%`.
 #[inline(always)]
+#[tactic(auto, using(crate::proofs::escapes::StopBits::stop_bits))]
 pub(super) fn stops_of(bytes: u8x64, marks: u64, percents: u64) -> (u64, u64)
     requires marks { marks ≡ mask_l (map is_marked bytes) }
     requires percents { percents ≡ mask_l (map (λ b. b == percent_sign) bytes) }
@@ -113,19 +94,8 @@ pub(super) fn stops_of(bytes: u8x64, marks: u64, percents: u64) -> (u64, u64)
     if others == 0 {
         return (0, percents & LAST_TWO);
     }
-    let hashes = bits_of(bytes, b'#');
+    let hashes = bytes.simd_eq(u8x64::splat(b'#')).to_bitmask();
     let passed = others - hashes;
     let near = passed >> 1 | passed >> 2;
     (passed, hashes + (percents & (near | LAST_TWO)))
-}
-
-/// Returns how many of the first `size` bytes come before the first stop.
-#[inline(always)]
-pub(super) fn len_before_stop(stops: u64, size: usize) -> usize
-    requires { size ≤ 64 }
-    ensures few { result ≤ size }
-    ensures none { stops % 2 ^ result ≡ 0 }
-    ensures stop { result < size → stops / 2 ^ result % 2 ≡ 1 }
-{
-    size.min(stops.trailing_zeros() as usize)
 }

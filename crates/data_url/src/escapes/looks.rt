@@ -50,11 +50,8 @@ impl Looks {
     pub(super) fn count(&mut self, bytes: usize)
         ensures { self.new ≡ self.old + bytes }
     {
-        let before = replace(&mut self.last, Looks::new().last);
-        let mark = Mark {
-            bytes,
-            before: Some(before),
-        };
+        let before = Some(replace(&mut self.last, Looks::new().last));
+        let mark = Mark { bytes, before };
         self.last = Snapshot::of(&mark);
     }
 }

@@ -2,19 +2,16 @@
 
 #![tactic(auto, using(crate::proofs::escapes::Walking::walks))]
 
-ghost use Rattle.std.specs.Prelude.{◌≡◌, ◌+◌, ◌-◌, ◌++◌, ◌<◌, ◌≤◌};
-ghost use Rattle.std.specs.Prelude.{IfNone, IfSome, length, map, replicate};
+ghost use Rattle.std.specs.Prelude.{◌≡◌, ◌+◌, ◌-◌, ◌++◌, ◌<◌, ◌≤◌, IfNone, IfSome, length, map, replicate};
 ghost use Rattle.std.specs.Simd.Lanes.{mask_l};
-ghost use Rattle.data_url.specs.Pieces.{text_of};
-ghost use Rattle.data_url.specs.Steps.Escapes.{IsPacked};
+ghost use Rattle.data_url.specs.{Pieces.{text_of}, Steps.Escapes.{IsPacked}, Steps.Window.{is_marked}};
 ghost use Rattle.data_url.specs.Steps.Walk.{IsWhole, Looking, LooksOn, MayGather, Packs};
-ghost use Rattle.data_url.specs.Steps.Window.{is_marked};
 
 use super::cursor::{Ahead, Cursor};
-use super::gather::BUFFER_LEN;
-use super::lanes::{BLOCK, bits_of, decode_escapes, len_before_stop, marks_of, stops_of};
+use super::gather::Buffer;
+use super::lanes::{BLOCK, decode_escapes, marks_of, stops_of};
+use super::marks::Block;
 use super::source::padded;
-use super::stops::Block;
 use crate::packing::pack_block;
 use std::simd::prelude::*;
 
@@ -57,7 +54,7 @@ impl<'a> Cursor<'a> {
     pub(super) fn pack_whole(
         &mut self,
         bytes: u8x64,
-        room: &mut [u8; BUFFER_LEN],
+        room: &mut Buffer,
         len: usize,
     ) -> Option<usize>
         requires may { MayGather self.old len }
@@ -68,16 +65,15 @@ impl<'a> Cursor<'a> {
         ensures packed { IfSome result (Packs self.old self.new room.old room.new len) }
         ensures none { IfNone result ((self.new ≡ self.old) × (room.new ≡ room.old)) }
     {
-        let _len = self.source.len();
         let (used, end) = pack_to_stop(bytes, self.block.marks, BLOCK, room, len)?;
-        self.pass_packed(used);
+        self.go_on_after(used);
         Some(end)
     }
 
     /// Reads the next block, after which no whole one follows, and packs it up to its first stop. Returns how many bytes are
     /// gathered then, or None if it packs nothing.
     #[inline(always)]
-    pub(super) fn pack_end(&mut self, room: &mut [u8; BUFFER_LEN], len: usize) -> Option<usize>
+    pub(super) fn pack_end(&mut self, room: &mut Buffer, len: usize) -> Option<usize>
         requires looking { Looking self.old.source self.old.block self.old.place 0 }
         requires unknown { self.old.ahead ≡ Ahead.Unknown }
         requires some { self.old.place < length (text_of self.old) }
@@ -102,14 +98,14 @@ impl<'a> Cursor<'a> {
             marks,
         };
         let (used, end) = packed?;
-        self.pass_packed(used);
+        self.go_on_after(used);
         Some(end)
     }
 
     /// Goes on after the first `used` bytes of the block. If only a short rest is left, it is read again with the next block. The
     /// bound on looks allows that for as many bytes as `used`.
     #[inline(always)]
-    fn pass_packed(&mut self, used: usize)
+    fn go_on_after(&mut self, used: usize)
         requires looking { Looking self.old.source self.old.block self.old.place 0 }
         requires used { (12 ≤ used) × (self.old.place + used ≤ self.old.block.seen) }
         ensures looking { Looking self.new.source self.new.block self.new.place 0 }
@@ -134,11 +130,12 @@ impl<'a> Cursor<'a> {
 /// but tabs and newlines. Returns how many come before the stop, and how many bytes are gathered then. Returns None, and packs
 /// nothing, if the block has few marks or only few bytes come before the stop.
 #[inline(always)]
+#[tactic(auto, using(crate::proofs::escapes::StopBits::stop_bits))]
 fn pack_to_stop(
     bytes: u8x64,
     marks: u64,
     size: usize,
-    room: &mut [u8; BUFFER_LEN],
+    room: &mut Buffer,
     len: usize,
 ) -> Option<(usize, usize)>
     requires marks { marks ≡ mask_l (map is_marked bytes) }
@@ -150,22 +147,21 @@ fn pack_to_stop(
     if marks.count_ones() < SEVERAL {
         return None;
     }
-    let percents = bits_of(bytes, b'%');
+    let percents = bytes.simd_eq(u8x64::splat(b'%')).to_bitmask();
     let (passed, stops) = stops_of(bytes, marks, percents);
-    let used = len_before_stop(stops, size);
+    let used = size.min(stops.trailing_zeros() as usize);
     if used < FEW {
         return None;
     }
     let (values, starts) = decode_escapes(bytes, percents);
-    let first = u64::MAX >> (BLOCK - used);
-    let dropped = ((6 * starts + passed) & first) + !first;
+    let dropped = (6 * starts + passed) | !(u64::MAX >> (BLOCK - used));
     Some((used, pack_block(values, dropped, &mut room[..], len)))
 }
 
 /// Does what `pack_to_stop` does, with the last bytes of a text, which are fewer than 64. Also returns their marks. It is not
 /// inlined, and does not see the walk, so that the walk can stay in registers.
 #[inline(never)]
-fn pack_last(rest: &[u8], room: &mut [u8; BUFFER_LEN], len: usize) -> (u64, Option<(usize, usize)>)
+fn pack_last(rest: &[u8], room: &mut Buffer, len: usize) -> (u64, Option<(usize, usize)>)
     requires rest { length rest.now < 64 }
     requires room { len ≤ 384 }
     ensures marks { result.0 ≡ mask_l (map is_marked rest.now) }

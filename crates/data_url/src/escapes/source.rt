@@ -2,18 +2,15 @@
 
 #![tactic(auto, using(crate::proofs::escapes::Walking::sources))]
 
-ghost use Rattle.std.specs.Prelude.{◌≡◌, IsTrue, [], ◌+◌, ◌-◌, ◌^◌, ◌++◌, ◌<◌, ◌≤◌, drop, length, map, min, replicate, slice_index, slice_range, take};
-ghost use Rattle.std.specs.Simd.Lanes.{mask_l};
-ghost use Rattle.std.specs.Option.{option_map};
-ghost use Rattle.data_url.specs.Steps.Tail.{IsBodyEnd};
-ghost use Rattle.data_url.specs.Steps.Walk.{IsBlock, Looking};
-ghost use Rattle.data_url.specs.Steps.Window.{is_marked};
+ghost use Rattle.std.specs.Prelude.{◌≡◌, IsTrue, ◌+◌, ◌-◌, ◌^◌, ◌++◌, ◌<◌, ◌≤◌, drop, length, map, min, replicate, slice_index, slice_range, take};
+ghost use Rattle.std.specs.{Option.{option_map}, Simd.Lanes.{mask_l}};
+ghost use Rattle.data_url.specs.Steps.{Tail.{IsBodyEnd}, Walk.{IsBlock, Looking}, Window.{is_marked}};
 ghost use Rattle.data_url.specs.Url.{after, number_sign};
 
-use super::gather::BUFFER_LEN;
+use super::gather::Buffer;
 use super::lanes::{BLOCK, marks_of};
 use super::looks::Looks;
-use super::stops::Block;
+use super::marks::Block;
 use std::simd::prelude::*;
 
 /// A text with a count of the bytes examined.
@@ -69,22 +66,6 @@ impl<'a> Source<'a> {
         u8x64::from_slice(&self.text.as_bytes()[place..])
     }
 
-    /// Reads the first byte of a text as a block if it is a `%`. Otherwise the block is empty: of another first byte, the look
-    /// does not count against the bound.
-    #[inline(always)]
-    pub(super) fn look_first(&mut self) -> Block
-        requires unread { self.old.looks ≡ 0 }
-        ensures looking { Looking self.new result 0 0 }
-        ensures text { self.new.text.now ≡ self.old.text.now }
-    {
-        let is_percent = self.len() > 0 && self.look(0) == b'%';
-        Block {
-            base: 0,
-            seen: usize::from(is_percent),
-            marks: u64::from(is_percent),
-        }
-    }
-
     /// Returns the text from a place on. Each of its bytes counts as a look.
     #[inline(always)]
     pub(super) fn look_rest(&mut self, place: usize) -> &'a [u8]
@@ -111,14 +92,7 @@ impl<'a> Source<'a> {
     /// Copies a stretch of at most 64 bytes into a buffer. None of its bytes is examined. The bytes after it in the
     /// buffer may be overwritten.
     #[inline(always)]
-    pub(super) fn copy(
-        &self,
-        start: usize,
-        end: usize,
-        room: &mut [u8; BUFFER_LEN],
-        len: usize,
-        wide: bool,
-    )
+    pub(super) fn copy(&self, start: usize, end: usize, room: &mut Buffer, len: usize, wide: bool)
         requires forward { start ≤ end }
         requires short { end ≤ start + 64 }
         requires within { end ≤ length self.now.text.now }

@@ -1,14 +1,11 @@
-use Rattle.data_url.proofs.escapes.HexCodes.{starts_mask, values_computed}
-use Rattle.data_url.proofs.escapes.StopBits.{none_start}
+use Rattle.data_url.proofs.escapes.{HexCodes.{starts_mask, values_computed}, StopBits.{none_start}}
 use Rattle.data_url.proofs.escapes.lanes.decode_escapes.Goals as goal
 
 pub returns-clause-values : goal.returns-clause-values
-returns-clause-values c =
-    values_computed c.args.bytes c.hex_codes-codes.result c.fits-bytes.0 c.hex_codes-codes.ensures
+returns-clause-values c = values_computed c.args.bytes c.fits-bytes.0 c.fits-bytes.1
 
 pub returns-clause-starts : goal.returns-clause-starts
-returns-clause-starts c =
-    starts_mask c.args.bytes c.hex_codes-codes.result c.fits-bytes.0 c.hex_codes-codes.ensures
+returns-clause-starts c = starts_mask c.args.bytes c.fits-bytes.0 c.fits-bytes.1
 
 pub returns-then-percents-eq0-clause-values : goal.returns-then-percents-eq0-clause-values
 returns-then-percents-eq0-clause-values c =

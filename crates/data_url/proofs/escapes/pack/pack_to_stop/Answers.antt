@@ -1,32 +1,24 @@
-use Rattle.std.proofs.Common.{arith, ◌∙◌, ◌^◌, ◌%◌, ◌/◌, ◌++◌, ap, sym, take, List, ℕ}
-use Rattle.data_url.proofs.escapes.{StopBits.{dropped_few}, PackedBlocks.{front_put}}
+use Rattle.std.proofs.Common.{List, ap, arith, take, ℕ, ◌++◌, ◌∙◌}
+use Rattle.data_url.proofs.escapes.StopBits.{equal_mask, front_put, length-stops, zeros_before}
+use Rattle.data_url.specs.Steps.Escapes.{stops}
 use Rattle.data_url.proofs.escapes.pack.pack_to_stop.Goals as goal
 
-pub overflow_mul-dropped : goal.overflow_mul-dropped
-overflow_mul-dropped c =
-    let few = dropped_few c.args.bytes in
-    let long = ap (λ n. 2 ^ n) c.fits-bytes.0 in
-    record { fits = omega (arith, few, long, c.decode_escapes-starts.ensures.starts, c.stops_of-passed.ensures.passed) }
+pub stops_of-passed-requires-clause-percents : goal.stops_of-passed-requires-clause-percents
+stops_of-passed-requires-clause-percents c = equal_mask c.args.bytes 37 c.fits-bytes.0
 
-pub overflow_add-dropped : goal.overflow_add-dropped
-overflow_add-dropped c =
-    let few = dropped_few c.args.bytes in
-    let long = ap (λ n. 2 ^ n) c.fits-bytes.0 in
-    record { fits = omega (arith, few, long, c.decode_escapes-starts.ensures.starts, c.stops_of-passed.ensures.passed) }
+pub decode_escapes-starts-requires : goal.decode_escapes-starts-requires
+decode_escapes-starts-requires c = equal_mask c.args.bytes 37 c.fits-bytes.0
 
 pub returns-clause-packed : goal.returns-clause-packed
 returns-clause-packed c =
     let d = c.decode_escapes-starts in
-    let u = c.len_before_stop-used.ensures in
     let s = c.stops_of-passed.ensures in
-    let before : List ℕ = take c.args.len c.args.room.now in
-    let put = front_put c.args.bytes d.result.0 d.result.1 c.stops_of-passed.result.0 c.len_before_stop-used.result
-    c.fits-bytes.0 (omega (arith, u.few, c.requires.size)) d.ensures.values d.ensures.starts s.passed in
+    let zeros = zeros_before (stops c.args.bytes) (length-stops c.args.bytes ∙ c.fits-bytes.0) in
+    let put = front_put c.args.bytes d.result.0 d.result.1 c.stops_of-passed.result.0 c.min-used.result
+    c.fits-bytes.0 (omega (arith, c.min-used.ensures, c.requires.size)) d.ensures.values d.ensures.starts s.passed in
     record {
       some = omega (arith, c.if-used-lt-FEW.false);
-      few = u.few;
-      none = ap (λ n. n % 2 ^ c.len_before_stop-used.result) (sym s.stops) ∙ u.none;
-      stop = λ l. ap (λ n. n / 2 ^ c.len_before_stop-used.result % 2) (sym s.stops) ∙ u.stop l;
+      used_is = grind (arith, c.min-used.ensures, s.stops, zeros);
       short = omega (arith, c.pack_block.ensures.few);
-      room_is = c.pack_block.ensures.kept ∙ ap (λ (t : List ℕ). before ++ t) put;
+      room_is = c.pack_block.ensures.kept ∙ ap (λ (t : List ℕ). take c.args.len c.args.room.now ++ t) put;
     }

@@ -12,8 +12,8 @@ returns-in_default-clause-gathered c =
       gathering = grind arith;
     }
 
-pub gather_stop-more-requires-clause-may : goal.gather_stop-more-requires-clause-may
-gather_stop-more-requires-clause-may c =
+pub gather_mark-more-requires-clause-may : goal.gather_mark-more-requires-clause-may
+gather_mark-more-requires-clause-may c =
     let m = c.in-Some.ensures in
     may_clear _ c.loop-self.invariant.1 c.loop-self-test.true m.1.forward (omega (arith, m.0))
 
@@ -22,7 +22,7 @@ returns-then-ended-clause-gathered c =
     let i = c.loop-self.invariant in
     let m = c.in-Some.ensures in
     let g = gathers_then i.0 (gathers_then (gathers_clear _ i.1 m.1.forward (omega (arith, m.0)) m.1.clear
-    c.copy-in-loop-self.ensures) c.gather_stop-more.ensures.gathers) in
+    c.copy-in-loop-self.ensures) c.gather_mark-more.ensures.gathers) in
     grind arith
 
 pub loop-self-preserved : goal.loop-self-preserved
@@ -30,5 +30,5 @@ loop-self-preserved c =
     let i = c.loop-self.invariant in
     let m = c.in-Some.ensures in
     let g = gathers_then i.0 (gathers_then (gathers_clear _ i.1 m.1.forward (omega (arith, m.0)) m.1.clear
-    c.copy-in-loop-self.ensures) c.gather_stop-more.ensures.gathers) in
+    c.copy-in-loop-self.ensures) c.gather_mark-more.ensures.gathers) in
     grind arith

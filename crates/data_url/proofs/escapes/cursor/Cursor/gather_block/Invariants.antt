@@ -1,5 +1,5 @@
 -- Some bytes are gathered, and the walk can gather more.
-use Rattle.std.proofs.Common.{◌≡◌, ◌-◌}
+use Rattle.std.proofs.Common.{◌-◌, ◌≡◌}
 use Rattle.data_url.specs.Steps.Walk.{Gathers, MayGather}
 use Rattle.data_url.proofs.escapes.cursor.Cursor.gather_block.Given as goal
 

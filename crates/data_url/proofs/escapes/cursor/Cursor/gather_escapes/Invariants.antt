@@ -1,7 +1,7 @@
 -- Some bytes are gathered, and the walk is directly after an escape.
-use Rattle.std.proofs.Common.{◌≡◌, ◌+◌, ◌*◌, ◌-◌, ◌≤◌, length}
-use Rattle.data_url.specs.Pieces.{text_of}
-use Rattle.data_url.specs.{Steps.Walk.{Gathers, HasRoom, Looking}, declared.escapes.cursor.Ahead.TheVariants.{Unknown}}
+use Rattle.std.proofs.Common.{length, ◌*◌, ◌+◌, ◌-◌, ◌≡◌, ◌≤◌}
+use Rattle.data_url.specs.{Pieces.{text_of}, Steps.Walk.{Gathers, HasRoom, Looking}}
+use Rattle.data_url.specs.declared.escapes.cursor.Ahead.TheVariants.{Unknown}
 use Rattle.data_url.proofs.escapes.cursor.Cursor.gather_escapes.Given as goal
 
 abbrev pub invariant-loop-len : goal.invariant-loop-len

@@ -1,17 +1,21 @@
-use Rattle.std.proofs.{Common.{arith}, lemmas.List.{take_more_set}}
+use Rattle.std.proofs.{Common.{arith, lit≤}, lemmas.List.{take_more_set}}
+use Rattle.data_url.proofs.escapes.{Reading.{spells_escape}, Walking.{gathers_byte, gathers_then, over_next}}
+use Rattle.data_url.{proofs.escapes.Walking.{takes_gathered, takes_next, walks}, specs.Steps.Walk.{Gathers}}
 use Rattle.data_url.specs.declared.escapes.Piece.TheVariants.{Byte, Slice}
-use Rattle.data_url.proofs.escapes.Walking.{gathers_then, over_next, takes_gathered, takes_next}
-use Rattle.std.proofs.Common.{length, refl}
-use Rattle.data_url.specs.Pieces.{text_of}
-use Rattle.data_url.proofs.escapes.Walking.{smaller}
-use Rattle.data_url.specs.Steps.Walk.{Gathers}
 use Rattle.data_url.proofs.escapes.cursor.Cursor.next_bytes.Goals as goal
 
-pub loop-len-smaller : goal.loop-len-smaller
-loop-len-smaller c =
-    let m = c.in-Some.ensures.moves in
-    smaller c.loop-len.self {c1 = c.loop-len.self} (length (text_of c.args.self.now)) m.1 refl (grind arith) m.0
-    c.in-Some.ensures.gathered.gathers
+pub loop-len-init : goal.loop-len-init
+loop-len-init c = elim c.match-self.branch [
+  | goal.in-Escape w ↦ rw (w.self-is, w.room-is, w.len-is) (
+      let k = rw w.in-Escape.is at c.requires.ahead_is in
+      record {
+        gathers = gathers_byte (grind arith) (spells_escape k.0).reads (omega arith);
+        few = lit≤ tt;
+        gathering = grind arith;
+      })
+  | goal.in-AfterEscape w ↦ rw (w.self-is, w.room-is, w.len-is) (grind (arith, walks))
+  | goal.in-Unknown w ↦ rw (w.self-is, w.room-is, w.len-is) (grind (arith, walks))
+]
 
 pub returns-in-None-clause-gives : goal.returns-in-None-clause-gives
 returns-in-None-clause-gives c =

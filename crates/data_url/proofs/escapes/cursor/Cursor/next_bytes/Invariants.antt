@@ -1,7 +1,6 @@
 -- Some bytes are gathered; either the body ends at the place of the walk, or nothing is known about it.
 use Rattle.std.proofs.Common.{length}
-use Rattle.data_url.specs.{Pieces.{has_ended, text_of}, Steps.Walk.{Gathered}}
-use Rattle.data_url.proofs.escapes.Walking.{measure}
+use Rattle.data_url.{proofs.escapes.Walking.{measure}, specs.Pieces.{has_ended, text_of}, specs.Steps.Walk.{Gathered}}
 use Rattle.data_url.proofs.escapes.cursor.Cursor.next_bytes.Given as goal
 
 abbrev pub invariant-loop-len : goal.invariant-loop-len

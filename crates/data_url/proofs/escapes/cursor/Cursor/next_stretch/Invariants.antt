@@ -1,5 +1,5 @@
 -- Tabs and newlines were skipped, and a stretch was found up to the place where the search goes on.
-use Rattle.std.proofs.Common.{◌-◌, length}
+use Rattle.std.proofs.Common.{length, ◌-◌}
 use Rattle.data_url.specs.{Pieces.{text_of}, Steps.Walk.{Looking, LooksOn, Searching}}
 use Rattle.data_url.proofs.escapes.cursor.Cursor.next_stretch.Given as goal
 

@@ -1,5 +1,5 @@
 -- All bytes so far are tabs and newlines.
-use Rattle.std.proofs.Common.{◌≡◌, ◌+◌, ◌-◌}
+use Rattle.std.proofs.Common.{◌+◌, ◌-◌, ◌≡◌}
 use Rattle.data_url.specs.Steps.Digits.{Skipped}
 use Rattle.data_url.proofs.escapes.source.Source.digit_by_loop.Given as goal
 

@@ -1,10 +1,9 @@
 //! The marked bytes of a text: where they are, and what begins there.
 
-#![tactic(auto, using(crate::proofs::escapes::BlockMarks::stops))]
+#![tactic(auto, using(crate::proofs::escapes::BlockMarks::mark_places))]
 
 ghost use Rattle.std.specs.Prelude.{IsTrue, ◌≡◌, ◌+◌, ◌^◌, ◌<◌, ◌≤◌, MatchOption, length, slice_index, true};
-ghost use Rattle.data_url.specs.Steps.Walk.{IsClear, IsNextMark, IsStop, Looking, LooksOn};
-ghost use Rattle.data_url.specs.Steps.Window.{is_marked};
+ghost use Rattle.data_url.specs.Steps.{Walk.{IsAtMark, IsClear, IsNextMark, Looking, LooksOn}, Window.{is_marked}};
 
 use super::lanes::{BLOCK, marks_of};
 use super::source::{Source, last_marks};
@@ -18,7 +17,7 @@ pub(super) struct Block {
 }
 
 /// What begins at a marked byte.
-pub(super) enum Stop {
+pub(super) enum AtMark {
     /// A `%` that begins no escape.
     Stays,
     /// A tab or a newline.
@@ -38,7 +37,6 @@ impl Block {
         ensures { MatchOption result (IsClear source.now.text.now place self.now.seen)
             (λ mark. (mark < self.now.seen) × IsNextMark source.now.text.now place mark) }
     {
-        let _len = source.len();
         let marks = self.marks >> (place - self.base);
         if marks == 0 {
             return None;
@@ -93,7 +91,7 @@ impl<'a> Source<'a> {
     /// What begins at a marked byte, or that the text ends. If the byte is `followed` by two bytes or more, it is faster: whether
     /// the text ends is not tested.
     #[inline(always)]
-    pub(super) fn stop_at(&mut self, mark: usize, followed: bool) -> Stop
+    pub(super) fn at_mark(&mut self, mark: usize, followed: bool) -> AtMark
         requires within { mark ≤ length self.old.text.now }
         requires room { IsTrue followed → mark + 3 ≤ length self.old.text.now }
         requires marked { mark < length self.old.text.now
@@ -101,22 +99,18 @@ impl<'a> Source<'a> {
         ensures text { self.new.text.now ≡ self.old.text.now }
         ensures bound { length self.old.text.now < 2 ^ 64 }
         ensures looks { self.old.looks ≤ self.new.looks }
-        ensures stop { IsStop self.old.text.now mark self.old.looks self.new.looks result }
+        ensures found { IsAtMark self.old.text.now mark self.old.looks self.new.looks result }
     {
         if !followed && mark >= self.len() {
-            return Stop::End;
+            return AtMark::End;
         }
-        let byte = self.look(mark);
-        if byte == b'%' {
-            return match self.escape(mark, followed) {
-                Some((value, end)) => Stop::Escape(value, end),
-                None => Stop::Stays,
-            };
-        }
-        if byte == b'#' {
-            Stop::End
-        } else {
-            Stop::Passed
+        match self.look(mark) {
+            b'%' => match self.escape(mark, followed) {
+                Some((value, end)) => AtMark::Escape(value, end),
+                None => AtMark::Stays,
+            },
+            b'#' => AtMark::End,
+            _ => AtMark::Passed,
         }
     }
 }

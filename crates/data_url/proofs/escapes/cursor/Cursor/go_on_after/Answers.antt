@@ -1,6 +1,6 @@
 use Rattle.std.proofs.Common.{arith, ◌+◌}
-use Rattle.data_url.proofs.escapes.{PackedBlocks.{looking_again}, BlockMarks.{looking_on}}
-use Rattle.data_url.proofs.escapes.cursor.Cursor.pass_packed.Goals as goal
+use Rattle.data_url.proofs.escapes.{BlockMarks.{looking_on}, PackedBlocks.{looking_again}}
+use Rattle.data_url.proofs.escapes.cursor.Cursor.go_on_after.Goals as goal
 
 pub returns-then-left-le-SHORT_REST-clause-looking : goal.returns-then-left-le-SHORT_REST-clause-looking
 returns-then-left-le-SHORT_REST-clause-looking c = looking_again c.requires.looking c.requires.used.1 (omega arith)

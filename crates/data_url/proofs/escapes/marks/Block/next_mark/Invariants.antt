@@ -1,7 +1,7 @@
 -- There is no mark before the place, and no byte after it was read.
-use Rattle.std.proofs.Common.{◌≤◌, ◌-◌, length}
+use Rattle.std.proofs.Common.{length, ◌-◌, ◌≤◌}
 use Rattle.data_url.specs.Steps.Walk.{IsClear, Looking, LooksOn}
-use Rattle.data_url.proofs.escapes.stops.Block.next_mark.Given as goal
+use Rattle.data_url.proofs.escapes.marks.Block.next_mark.Given as goal
 
 abbrev pub invariant-loop-place : goal.invariant-loop-place
 invariant-loop-place l = record {

@@ -1,20 +1,20 @@
 use Rattle.std.proofs.Common.{arith, ◌∙◌}
-use Rattle.data_url.proofs.escapes.BlockMarks.{clear_then, looking_mark, looking_read, looking_seen, mark_then}
-use Rattle.data_url.proofs.escapes.PackedBlocks.{looking_rest}
-use Rattle.data_url.proofs.escapes.stops.Block.next_mark.Goals as goal
+use Rattle.data_url.proofs.escapes.BlockMarks.{clear_then, looking_mark, looking_rest, looking_seen, looking_whole}
+use Rattle.data_url.proofs.escapes.BlockMarks.{mark_then}
+use Rattle.data_url.proofs.escapes.marks.Block.next_mark.Goals as goal
 
 pub mark_from-requires-in-loop-place-clause-looking : goal.mark_from-requires-in-loop-place-clause-looking
 mark_from-requires-in-loop-place-clause-looking c =
     let i = c.loop-place.invariant in
     let look = c.look_bytes-bytes.ensures in
-    looking_read {s' = c.look_bytes-bytes.new.self} c.look_bytes-bytes.result i.looking i.unseen (omega arith) look.text
+    looking_whole {s' = c.look_bytes-bytes.new.self} c.look_bytes-bytes.result i.looking i.unseen (omega arith) look.text
     look.looks look.bytes c.marks_of.ensures
 
 pub returns-in-Some-mark_from-clause-looking : goal.returns-in-Some-mark_from-clause-looking
 returns-in-Some-mark_from-clause-looking c =
     let i = c.loop-place.invariant in
     let look = c.look_bytes-bytes.ensures in
-    looking_mark (looking_read {s' = c.look_bytes-bytes.new.self} c.look_bytes-bytes.result i.looking i.unseen (omega arith)
+    looking_mark (looking_whole {s' = c.look_bytes-bytes.new.self} c.look_bytes-bytes.result i.looking i.unseen (omega arith)
     look.text look.looks look.bytes c.marks_of.ensures) c.in-Some-mark_from.ensures.1
 
 pub returns-in-Some-mark_from-clause-mark : goal.returns-in-Some-mark_from-clause-mark
@@ -27,7 +27,7 @@ loop-place-preserved c =
     let i = c.loop-place.invariant in
     let look = c.look_bytes-bytes.ensures in
     record {
-      looking = looking_seen (looking_read {s' = c.look_bytes-bytes.new.self} c.look_bytes-bytes.result i.looking i.unseen
+      looking = looking_seen (looking_whole {s' = c.look_bytes-bytes.new.self} c.look_bytes-bytes.result i.looking i.unseen
           (omega arith) look.text look.looks look.bytes c.marks_of.ensures) (omega arith);
       on = grind arith;
       unseen = omega arith;
