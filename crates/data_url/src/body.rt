@@ -2,14 +2,22 @@
 
 ghost use Rattle.std.specs.Prelude.{◌+◌, ◌≡◌, ◌≤◌, false, length, true};
 ghost use Rattle.std.specs.Fn.{CalledAt};
-ghost use Rattle.data_url.specs.Steps.Chunks.{IsCallableUntilError, TakesRest};
+ghost use Rattle.data_url.specs.Steps.Chunks.{IsBodyPrefix, IsCallableUntilError, TakesRest};
 ghost use Rattle.data_url.specs.Steps.Tail.{IsBodyEnd};
 ghost use Rattle.data_url.specs.Fetch.{outcome, plain_body};
 ghost use Rattle.data_url.specs.DataUrl.{Decodes};
+ghost use Rattle.data_url.specs.Steps.Whole.{IsBodyInVec};
 ghost use Rattle.data_url.specs.Decoder.{state_of};
 
 use crate::escapes::{BUFFER_LEN, Pieces};
-use crate::forgiving_base64::{DecodeError, Decoder};
+use crate::forgiving_base64::{DecodeError, DecodeToVecError, Decoder, room_for};
+use std::alloc::{AllocError, Global};
+
+/// The most room, in bytes of the text, that is allocated first for a body that is likely to be shorter than its text.
+const FIRST_ROOM: usize = 64 * 1024;
+
+/// How many bytes of a long text are looked at before room is allocated for it.
+const PROBED: usize = 4 * 1024;
 
 /// Calls a closure with the rest of a body, until it returns an error. Returns this error, or the place in the text where the body
 /// ends.
@@ -63,12 +71,35 @@ where
     }
 }
 
+/// Calls a closure with a body that is not base64, from its prefix and the pieces after it. Returns the place in the text where
+/// the body ends.
+fn decode_plain<F, E>(
+    prefix: &[u8],
+    pieces: Pieces<'_>,
+    mut write: F,
+) -> (Result<usize, DecodeError<E>>, F)
+where
+    F: FnMut(&[u8]) -> Result<(), E>,
+    requires callable { F.IsAlwaysCallable write }
+    requires prefix { IsBodyPrefix pieces.text prefix.now pieces }
+    ensures { Decodes (CalledAt F.FnMut) write (length pieces.entry.text + 1)
+        (outcome false (plain_body pieces.entry.text)) (IsBodyEnd pieces.entry.text) result.0 result.1 }
+{
+    if !prefix.is_empty() {
+        if let Err(error) = write(prefix) {
+            return (Err(DecodeError::WriteError(error)), write);
+        }
+    }
+    let place = take_rest(pieces, &mut write);
+    (place.map_err(DecodeError::WriteError), write)
+}
+
 /// Calls a closure with a body, decoded if it is base64, from the text after the comma. Returns the place in the text where the
 /// body ends.
 pub(crate) fn decode_body<F, E>(
     tail: &str,
     base64: bool,
-    mut write: F,
+    write: F,
 ) -> (Result<usize, DecodeError<E>>, F)
 where
     F: FnMut(&[u8]) -> Result<(), E>,
@@ -80,11 +111,65 @@ where
         return decode_base64(tail, write);
     }
     let (prefix, pieces) = Pieces::after_prefix(tail);
-    if !prefix.is_empty() {
-        if let Err(error) = write(prefix) {
-            return (Err(DecodeError::WriteError(error)), write);
-        }
+    decode_plain(prefix, pieces, write)
+}
+
+/// Returns a body that is not base64 in a vector, and the place in the text where it ends. Room for a body that is its text up to
+/// the fragment is allocated once.
+pub(crate) fn plain_to_vec(alloc: Global, tail: &str) -> Result<(Vec<u8>, usize), DecodeToVecError>
+    ensures { IsBodyInVec false tail.now result }
+{
+    let (prefix, pieces) = Pieces::after_prefix(tail);
+    let mut room = prefix.len();
+    if room < tail.len() && tail.as_bytes()[room] != b'#' {
+        room = room.max(tail.len().min(FIRST_ROOM));
     }
-    let place = take_rest(pieces, &mut write);
-    (place.map_err(DecodeError::WriteError), write)
+    let Ok(mut bytes) = Vec::with_capacity(alloc, room) else {
+        return Err(DecodeToVecError::OutOfMemory);
+    };
+    let ended = decode_plain(prefix, pieces, |piece: &[u8]| -> Result<(), AllocError> {
+        bytes.extend_from_slice(piece)
+    });
+    match ended.0 {
+        Ok(place) => Ok((bytes, place)),
+        Err(error) => Err(DecodeToVecError::of(error)),
+    }
+}
+
+/// Returns how many symbols of base64 room is allocated for first: for the whole tail if it is short, or if its first bytes have
+/// no tab, newline, `%` or `#`. A search of all of it would cost a seventh of decoding.
+fn first_len(tail: &str) -> usize {
+    let probed = tail.get(..PROBED).unwrap_or("");
+    if tail.len() <= FIRST_ROOM || Pieces::after_prefix(probed).0.len() == PROBED {
+        return tail.len();
+    }
+    FIRST_ROOM
+}
+
+/// Gives room back that was allocated for a fragment, if the body that ends at a place is its text as it is.
+fn shrink(tail: &str, body: &mut Vec<u8>, place: usize)
+    ensures { body.new.items ≡ body.old.items }
+{
+    if place < tail.len() && Pieces::after_prefix(tail).0.len() == place {
+        body.shrink_to(room_for(place));
+    }
+}
+
+/// Returns a body of base64 in a vector, and the place in the text where it ends. Room is allocated by the length of the text.
+pub(crate) fn base64_to_vec(alloc: Global, tail: &str) -> Result<(Vec<u8>, usize), DecodeToVecError>
+    ensures { IsBodyInVec true tail.now result }
+{
+    let Ok(mut bytes) = Vec::with_capacity(alloc, room_for(first_len(tail))) else {
+        return Err(DecodeToVecError::OutOfMemory);
+    };
+    let ended = decode_base64(tail, |piece: &[u8]| -> Result<(), AllocError> {
+        bytes.extend_from_slice(piece)
+    });
+    match ended.0 {
+        Ok(place) => {
+            shrink(tail, &mut bytes, place);
+            Ok((bytes, place))
+        }
+        Err(error) => Err(DecodeToVecError::of(error)),
+    }
 }

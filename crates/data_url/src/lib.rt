@@ -19,7 +19,7 @@ mod packing;
 mod percent;
 mod split;
 
-use body::decode_body;
+use body::{base64_to_vec, decode_body, plain_to_vec};
 use escapes::{Pieces, fragment_at};
 use forgiving_base64::{DecodeError, DecodeToVecError, room_for};
 pub use fragment::FragmentIdentifier;
@@ -29,12 +29,6 @@ use split::{after_scheme, split_at_comma, trim};
 use std::alloc::{AllocError, Global};
 use std::error::Error;
 use std::fmt;
-
-/// The most room, in bytes, that is allocated first for a body whose first bytes show that it is shorter than its text.
-const FIRST_ROOM: usize = 64 * 1024;
-
-/// How many bytes of a long text are looked at before room is allocated.
-const PROBED: usize = 4 * 1024;
 
 /// A data: URL ([Fetch Standard, section 6](https://fetch.spec.whatwg.org/#data-url-processor)): its MIME type, and
 /// its body and fragment as slices of the text that it was read from.
@@ -114,31 +108,6 @@ impl<'a> DataUrl<'a> {
         &self.mime_type
     }
 
-    /// Returns how much room a body takes that is this many bytes of the text as they are.
-    fn room(&self, len: usize) -> usize {
-        if self.base64 { room_for(len) } else { len }
-    }
-
-    /// Returns how many bytes of the tail room is allocated for first: for all of them if they are few, or if the first of them
-    /// have no tab, newline, `%` or `#`.
-    fn first_len(&self) -> usize {
-        let len = self.tail.len();
-        let probed = self.tail.get(..PROBED).unwrap_or("");
-        if len <= FIRST_ROOM || Pieces::after_prefix(probed).0.len() == PROBED {
-            return len;
-        }
-        FIRST_ROOM
-    }
-
-    /// Gives room back that was allocated for the fragment, if the text up to it, at a place, is the body as it is.
-    fn shrink(&self, body: &mut Vec<u8>, place: usize)
-        ensures { body.new.items ≡ body.old.items }
-    {
-        if place < self.tail.len() && Pieces::after_prefix(self.tail).0.len() == place {
-            body.shrink_to(self.room(place));
-        }
-    }
-
     /// Calls a closure with the body's bytes, piece by piece. Returns the fragment
     /// ([Fetch Standard, section 6](https://fetch.spec.whatwg.org/#data-url-processor)), and the closure as its last
     /// call left it. Nothing is allocated.
@@ -201,9 +170,9 @@ impl<'a> DataUrl<'a> {
 
     /// Returns the body's bytes and the fragment
     /// ([Fetch Standard, section 6](https://fetch.spec.whatwg.org/#data-url-processor)). Room for a body without tabs,
-    /// newlines and `%` is allocated once, by the length of the text after the comma. Then room for a fragment is given
-    /// back. For any other body of more than 64 KiB, room for 64 KiB is allocated first, and grows, unless the first of
-    /// these characters comes after more than 4 KiB.
+    /// newlines and `%` is allocated once. For any other, room for at most 64 KiB, or for the bytes before the first of
+    /// these if they are more, is allocated first, and grows. For base64, room for a fragment is allocated too, and
+    /// given back; and room for all bytes after the comma, if the first 4 KiB have none of these characters.
     ///
     /// Returns `InvalidBase64` with the first fault if the body is base64 that is not valid, and `OutOfMemory` if
     /// allocation fails. If both happen, it is `OutOfMemory` if allocation fails before the fault is found: room is
@@ -216,23 +185,12 @@ impl<'a> DataUrl<'a> {
         ensures fragment { IfOk result (λ found. IsFragmentOf (url_tail self.now) found.1) }
         ensures error { IfErr result (IsBodyErrorOf (url_body self.now)) }
     {
-        let Ok(mut bytes) = Vec::with_capacity(alloc, self.room(self.first_len())) else {
-            return Err(DecodeToVecError::OutOfMemory);
+        let (bytes, place) = if self.base64 {
+            base64_to_vec(alloc, self.tail)?
+        } else {
+            plain_to_vec(alloc, self.tail)?
         };
-        let ended = decode_body(
-            self.tail,
-            self.base64,
-            |piece: &[u8]| -> Result<(), AllocError> { bytes.extend_from_slice(piece) },
-        );
-        match ended.0 {
-            Ok(place) => {
-                self.shrink(&mut bytes, place);
-                Ok((
-                    bytes,
-                    fragment_at(self.tail, place).map(FragmentIdentifier::new),
-                ))
-            }
-            Err(error) => Err(DecodeToVecError::of(error)),
-        }
+        let fragment = fragment_at(self.tail, place).map(FragmentIdentifier::new);
+        Ok((bytes, fragment))
     }
 }

@@ -1,8 +1,12 @@
--- What decoding a whole text of base64 does.
-use Rattle.std.specs.Prelude.{if◌then◌else◌, ◌+◌, ◌≡◌, ◌≤◌, Err, List, MatchBool, MatchOption, Ok, Result, length, ℕ}
+-- What decoding a whole text of base64 does, and a whole body.
+use Rattle.std.specs.Global.{Global}
+use Rattle.std.specs.Prelude.{if◌then◌else◌, ◌+◌, ◌≡◌, ◌≤◌, Bool, Err, List, MatchBool, MatchOption, Ok, Result, Vec}
+use Rattle.std.specs.Prelude.{length, ℕ}
 use Rattle.data_url.specs.Base64.{decoded, complete_bytes, is_valid, kind_of}
-use Rattle.data_url.specs.Errors.{IsRefused}
+use Rattle.data_url.specs.Errors.{IsBodyErrorOf, IsRefused}
+use Rattle.data_url.specs.Fetch.{Good, outcome, plain_body}
 use Rattle.data_url.specs.Run.{Call, IsRun, joined_pieces, refusal}
+use Rattle.data_url.specs.Steps.Tail.{IsBodyEnd}
 use Rattle.data_url.specs.declared.forgiving_base64.DecodeError.TheVariants.{InvalidBase64, WriteError}
 use Rattle.data_url.specs.declared.forgiving_base64.DecodeError.{DecodeError}
 use Rattle.data_url.specs.declared.forgiving_base64.DecodeToVecError.TheVariants as to_vec
@@ -25,3 +29,8 @@ pub record DecodesText {F E : Type 0} (step : F → List ℕ → Result (Unit {0
 abbrev pub vec_error : {E : Type 0} → DecodeError E → DecodeToVecError
 vec_error (InvalidBase64 kind) = to_vec.InvalidBase64 kind
 vec_error (WriteError e) = to_vec.OutOfMemory
+
+-- a body in a vector, and the place in its tail where it ends; or the error, as `decode_to_vec` of a URL returns it
+abbrev pub IsBodyInVec : Bool → List ℕ → Result (Vec ℕ Global × ℕ) DecodeToVecError → Type 0
+IsBodyInVec flag tail (Ok found) = (outcome flag (plain_body tail) ≡ Good found.0.items) × IsBodyEnd tail found.1
+IsBodyInVec flag tail (Err e) = IsBodyErrorOf (outcome flag (plain_body tail)) e
