@@ -9,7 +9,7 @@ ghost use Rattle.data_url.specs.MimeType.{as_option, record_of};
 
 use crate::classes::{Class, end_span, span};
 use crate::mime::{Mime, plain_head, read_head};
-use crate::percent::{EncodeSet, push_encoded};
+use crate::percent::{EncodeSet, PART, push_encoded};
 use crate::split::trim;
 use std::alloc::{AllocError, Global};
 
@@ -34,14 +34,19 @@ fn split_last_space<'a>(path: &'a [u8], query: &[u8]) -> (&'a [u8], &'static str
 }
 
 /// Returns the text of a header, serialised. Room for a text as long as the header is allocated first, and grows if
-/// more is written.
+/// more is written. A short header is encoded at once, and then room for it is allocated.
 #[inline(never)]
 #[tactic(auto, using(crate::proofs::header::Serialising::serialising))]
 fn serialised(alloc: Global, header: &[u8]) -> Result<String, AllocError>
     ensures { IfOk result (λ text. string_bytes text
         ≡ header_text (without_tabs_and_newlines header.now)) }
 {
-    let mut text = String::with_capacity(alloc, header.len())?;
+    let room = if header.len() <= PART {
+        0
+    } else {
+        header.len()
+    };
+    let mut text = String::with_capacity(alloc, room)?;
     let (path, query) = header.split_at(span(Class::Path, header));
     let (path, space) = split_last_space(path, query);
     push_encoded(&mut text, EncodeSet::Path, path)?;

@@ -26,7 +26,7 @@ pub(crate) enum EncodeSet {
 }
 
 /// How many bytes are encoded at a time.
-const PART: usize = 128;
+pub(crate) const PART: usize = 128;
 
 /// The size of the buffer, in bytes: more than a part is written as.
 const BUFFER_LEN: usize = 512;
@@ -63,6 +63,9 @@ pub(crate) fn push_encoded(
         ≡ string_bytes text.old
         ++ percent_encoding (in_set set) (without_tabs_and_newlines bytes.now)) }
 {
+    if bytes.is_empty() {
+        return Ok(());
+    }
     let mut room = [0; BUFFER_LEN];
     let mut rest = bytes;
     while !rest.is_empty() {
