@@ -45,7 +45,7 @@ where
 /// where the body ends.
 ///
 /// The text before its first `%` and `#` is decoded where it is, with its tabs and newlines. What is left is the rest of a body.
-fn decode_base64<F, E>(tail: &str, write: F) -> (Result<usize, DecodeError<E>>, F)
+pub(crate) fn decode_base64<F, E>(tail: &str, write: F) -> (Result<usize, DecodeError<E>>, F)
 where
     F: FnMut(&[u8]) -> Result<(), E>,
     requires callable { F.IsAlwaysCallable write }
@@ -73,7 +73,7 @@ where
 
 /// Calls a closure with a body that is not base64, from its prefix and the pieces after it. Returns the place in the text where
 /// the body ends.
-fn decode_plain<F, E>(
+pub(crate) fn decode_plain<F, E>(
     prefix: &[u8],
     pieces: Pieces<'_>,
     mut write: F,
@@ -92,26 +92,6 @@ where
     }
     let place = take_rest(pieces, &mut write);
     (place.map_err(DecodeError::WriteError), write)
-}
-
-/// Calls a closure with a body, decoded if it is base64, from the text after the comma. Returns the place in the text where the
-/// body ends.
-pub(crate) fn decode_body<F, E>(
-    tail: &str,
-    base64: bool,
-    write: F,
-) -> (Result<usize, DecodeError<E>>, F)
-where
-    F: FnMut(&[u8]) -> Result<(), E>,
-    requires callable { F.IsAlwaysCallable write }
-    ensures { Decodes (CalledAt F.FnMut) write (length tail.entry.now + 1)
-        (outcome base64 (plain_body tail.entry.now)) (IsBodyEnd tail.entry.now) result.0 result.1 }
-{
-    if base64 {
-        return decode_base64(tail, write);
-    }
-    let (prefix, pieces) = Pieces::after_prefix(tail);
-    decode_plain(prefix, pieces, write)
 }
 
 /// Returns a body that is not base64 in a vector, and the place in the text where it ends. Room for a body that is its text up to

@@ -19,7 +19,7 @@ mod packing;
 mod percent;
 mod split;
 
-use body::{base64_to_vec, decode_body, plain_to_vec};
+use body::{base64_to_vec, decode_base64, decode_plain, plain_to_vec};
 use escapes::{Pieces, fragment_at};
 use forgiving_base64::{DecodeError, DecodeToVecError, room_for};
 pub use fragment::FragmentIdentifier;
@@ -132,7 +132,12 @@ impl<'a> DataUrl<'a> {
         ensures { Decodes (CalledAt F.FnMut) write_body_bytes (length (url_tail self.now) + 1)
             (url_body self.now) (IsFragmentOf (url_tail self.now)) result.0 result.1 }
     {
-        let (answer, write) = decode_body(self.tail, self.base64, write_body_bytes);
+        let (answer, write) = if self.base64 {
+            decode_base64(self.tail, write_body_bytes)
+        } else {
+            let (prefix, pieces) = Pieces::after_prefix(self.tail);
+            decode_plain(prefix, pieces, write_body_bytes)
+        };
         match answer {
             Ok(place) => (
                 Ok(fragment_at(self.tail, place).map(FragmentIdentifier::new)),
