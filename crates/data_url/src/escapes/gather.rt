@@ -15,7 +15,7 @@ use super::pack::SEVERAL;
 /// How many bytes the buffer holds in which short stretches and values of escapes are gathered.
 pub(crate) const BUFFER_LEN: usize = 512;
 
-/// That buffer.
+/// The buffer itself.
 pub(super) type Buffer = [u8; BUFFER_LEN];
 
 impl<'a> Cursor<'a> {
