@@ -5,7 +5,8 @@ use Rattle.std.proofs.Common.{leb, length, length-take-le, map, map-id, not, ref
 use Rattle.std.proofs.Common.{sym, take, take-take, take_all, true, w8, zero, [], ℕ, ◌%◌, ◌++◌, ◌+◌, ◌-◌, ◌/◌, ◌<◌}
 use Rattle.std.proofs.{Common.{◌^◌, ◌∙◌, ◌∷◌, ◌≡◌, ◌≢◌, ◌≤◌}, Math.Nat.{div-div-eq-div-mul, pow-suc}}
 use Rattle.std.proofs.{Math.Seq.{take-append-add}, lemmas.Bool.{agree_below_at, cases_Bool, cases_lt, eqb-true}}
-use Rattle.std.proofs.lemmas.{List.{drop-map, drop-replicate, length-map, take-append-le, take_rest}, Nat.{and_le_r}}
+use Rattle.std.proofs.lemmas.List.{drop-drop, drop-map, drop-replicate, drop-take, drop_all, drop_more, get_or-drop}
+use Rattle.std.proofs.lemmas.{List.{length-drop, length-map, length-take, take-append-le, take_rest}, Nat.{and_le_r}}
 use Rattle.std.proofs.lemmas.Simd.{SwzOk, SwzOk-from_below, bitmask_splat, get_or-swz_l_below, mask_l-mod}
 use Rattle.std.proofs.lemmas.Simd.{none_from_empty_mask, put_chunk_whole, run_in_chunk_fails, run_in_chunk_le}
 use Rattle.std.proofs.lemmas.Simd.{run_in_chunk_stops, swz_l, tops_compared, trailing_mask_l, zip2_of_maps, zip2_splat}
@@ -15,9 +16,6 @@ use Rattle.data_url.{proofs.escapes.Reading.{escape_ends, paid_on, paid_percent}
 use Rattle.data_url.specs.Steps.{Walk.{IsNextMark, Looking}, Window.{is_marked}}
 use Rattle.data_url.specs.declared.escapes.{lanes.TheConstants.{MARKED}, marks.Block.{Block}, source.Source.{Source}}
 use borrow.Rule.Slice.PartMut.{mid_of, post_of, put_mid}
-pub use Rattle.std.proofs.lemmas.List.{drop-drop, drop-take, drop_all, drop_more, get_or-drop, length-drop, length-take}
-
--- Blocks of a body and their marks. For `next_mark`.
 
 -- a block of 64 bytes of the text, copied into a buffer of 512 bytes, leaves its first `width` bytes there
 pub copied_wide : (room bytes text : List ℕ) (len width start : ℕ) → length room ≡ 512 → len + 64 ≤ 512 → width ≤ 64

@@ -1,16 +1,14 @@
 -- Hexadecimal digits in a text, after tabs and newlines. For `digit`, `escape` and `escape_here`.
 use Rattle.std.proofs.Common.{Bool, List, ap, arith, bit_or, cond, drop, eqb, eqb-true, false, get_or, length, ltb, not}
 use Rattle.std.proofs.Common.{refl, suc, true, zero, [], ℕ, ◌&&◌, ◌*◌, ◌++◌, ◌+◌, ◌-◌, ◌<◌, ◌==◌, ◌∙◌, ◌∷◌, ◌≡◌, ◌≤◌}
-use Rattle.std.proofs.lemmas.{Bool.{agree_below_at, and_left, cases_Bool, eqb-true}, List.Sums.{prefix_len-drop_yes}}
-use Rattle.std.{proofs.lemmas.Nat.{and_le_r, le_or_l, le_or_r, or_lt}, specs.Char.{digit_value, is_ascii_hexdigit}}
+use Rattle.std.proofs.lemmas.{Bool.{agree_below_at, and_left, cases_Bool, eqb-true}, List.{drop_more, get_or-drop}}
+use Rattle.std.proofs.lemmas.{List.{length-drop}, List.Sums.{prefix_len-drop_yes}, Nat.{and_le_r, le_or_l, le_or_r}}
+use Rattle.std.{proofs.lemmas.Nat.{or_lt}, specs.Char.{digit_value, is_ascii_hexdigit}}
 use Rattle.data_url.proofs.texts.Bytes.{after_other, before_nil, before_other, before_same, dropped_keeps, dropped_nil}
 use Rattle.data_url.{proofs.texts.Bytes.{dropped_passes}, specs.Percent.{begins_with_escape}}
 use Rattle.data_url.specs.Steps.Digits.{DigitFound, EscapeAt, IsCode, NoDigit, NoEscape, Skipped, cleaned}
 use Rattle.data_url.specs.{Steps.Looks.{before_percent}, Url.{after, front, is_tab_or_newline}}
 use Rattle.data_url.specs.declared.escapes.digits.TheConstants.{DIGITS}
-pub use Rattle.std.proofs.lemmas.List.{drop-drop, drop-take, drop_all, drop_more, get_or-drop, length-drop, length-take}
-
--- Hexadecimal digits in a text, after tabs and newlines. For `escape` and `escape_here`.
 
 -- a test by whether a byte is a tab or newline, or a digit of some value, tells what its code says
 by_test : (tab hex : Bool) (value code : ℕ)

@@ -1,4 +1,5 @@
--- The bytes of a block before its first stop: what is packed of them is their part of the body. For `pack_to_stop`.
+-- The bytes of a block before its first stop: what is packed of them is their part of the body. For `pack_to_stop`,
+-- `pack_whole` and `pack_end`.
 use Rattle.std.proofs.Common.{List, arith, cond, eqb, false, inl, inr, length, lit<, map, not, refl, suc, take, true}
 use Rattle.std.proofs.{Common.{[], ℕ, ◌*◌, ◌++◌, ◌+◌, ◌<◌, ◌==◌, ◌∷◌, ◌≡◌, ◌≤◌}, lemmas.Bool.{and_parts, cases_Bool}}
 use Rattle.std.{proofs.lemmas.Bool.{eqb-true}, specs.Char.{digit_value, is_ascii_hexdigit}, specs.List.{prefix_len}}

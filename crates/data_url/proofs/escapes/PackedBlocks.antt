@@ -24,10 +24,7 @@ record IsRest (y t : List ℕ) : Type 0 where
 rest_is : (z r : List ℕ) (k n : ℕ) → (0 < k → r ≡ []) → n ≡ min (length z) (prefix_len not (stops (z ++ replicate k 0)))
     → IsRest (drop n (z ++ replicate k 0)) (drop n (z ++ r))
 rest_is [] r zero n over is = grind arith
-rest_is [] r (suc k) n over is =
-    let none = over (omega arith) in
-    let first : n ≡ 0 = omega arith in
-    rw (none, first) (record { closed = refl; apart = λ l. ap begins_with_digit cleaned_nil })
+rest_is [] r (suc k) n over is = grind (arith, cleaned_nil)
 rest_is (b ∷ z) r k n over is =
     let s = z ++ replicate k 0 in
     elim (cases_Bool ((b == 35) || ((b == 37) && is_unsure s))) [

@@ -1,8 +1,8 @@
 -- What a walk reads between two places of its text, and the bound on how many bytes it reads. For `at_mark`.
 use Rattle.std.proofs.Common.{List, ap, append_assoc, arith, cond, drop, false, get_or, length, length-append, refl}
 use Rattle.std.proofs.Common.{slice_range, suc, take, true, zero, [], ℕ, ◌*◌, ◌++◌, ◌+◌, ◌-◌, ◌<◌, ◌==◌, ◌∙◌, ◌∷◌, ◌≡◌}
-use Rattle.std.proofs.{Common.{◌≤◌}, lemmas.Bool.{cases_Bool}, lemmas.List.Sums.{count_by-le-length, length-filter}}
-use Rattle.std.proofs.lemmas.List.Sums.{prefix_len-drop_no, prefix_len-le-length}
+use Rattle.std.proofs.{Common.{◌≤◌}, lemmas.Bool.{cases_Bool}, lemmas.List.{drop-drop, drop_more, length-drop}}
+use Rattle.std.proofs.lemmas.List.Sums.{count_by-le-length, length-filter, prefix_len-drop_no, prefix_len-le-length}
 use Rattle.data_url.proofs.escapes.EscapeDigits.{begins_other, cleaned_hash, cleaned_keeps, cleaned_nil, cleaned_passes}
 use Rattle.data_url.proofs.{percent.Encoding.{decoded_escape}, texts.Bytes.{after_other}}
 use Rattle.data_url.specs.{Fetch.{plain_body}, Percent.{begins_with_escape, percent_decoding}, Pieces.{is_slice_end}}
@@ -10,9 +10,6 @@ use Rattle.data_url.specs.Steps.{Digits.{EscapeAt, NoEscape, cleaned}, Looks.{be
 use Rattle.data_url.specs.Steps.{Tail.{BeginsFragment}, Walk.{IsAtMark, IsClear, Reads, Spells}, Window.{is_marked}}
 use Rattle.data_url.specs.Url.{before, front, is_tab_or_newline, without_tabs_and_newlines}
 use Rattle.data_url.specs.declared.escapes.marks.AtMark.TheVariants.{Passed, Stays}
-pub use Rattle.std.proofs.lemmas.List.{drop-drop, drop-take, drop_all, drop_more, get_or-drop, length-drop, length-take}
-
--- What a walk reads between two places of its text, and the bound on how many bytes it reads. For `at_mark`.
 
 -- a body is the percent-decoded cleaned tail
 pub plain_is : (s : List ℕ) → plain_body s ≡ percent_decoding (cleaned s)

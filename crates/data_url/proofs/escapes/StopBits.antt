@@ -1,4 +1,4 @@
--- The bits of the stops of a block. For `stops_of` and `pack_to_stop`.
+-- The bits of the stops of a block. For `stops_of`, `decode_escapes` and `pack_to_stop`.
 use Rattle.std.proofs.Common.{Bool, Fits, List, ap, arith, bit_and, bit_or, cond, drop, eqb, false, length, lit<, lit≤}
 use Rattle.std.proofs.Common.{map, map-id, not, refl, replicate, suc, take, true, w64, w8, zero, [], ℕ, ◌%◌, ◌&&◌, ◌*◌}
 use Rattle.std.proofs.{Common.{◌+◌, ◌-◌, ◌/◌, ◌<◌, ◌==◌, ◌^◌, ◌||◌, ◌∙◌, ◌∷◌, ◌≡◌, ◌≤◌}, Math.Nat.{pow-succ'}}

@@ -1,8 +1,9 @@
 -- The pieces of a walk, and the bytes that it gathers. For `Cursor` and `Pieces`.
 use Rattle.std.proofs.Common.{Some, refl, sym, ap, ◌∙◌, inl, inr, arith, length-append, Bool, ◌≢◌, Option, ◌*◌, cond}
 use Rattle.std.proofs.Common.{drop-drop, length-drop, append-nil, ◌≡◌, ℕ, ◌+◌, ◌-◌, ◌<◌, ◌≤◌, true, List, [], ◌∷◌, ◌++◌}
-use Rattle.std.proofs.Common.{length, take, drop, get_or, None, length-take-le, take-append-drop, set, append_assoc}
+use Rattle.std.proofs.Common.{length, take, drop, get_or, None, length-take-le, set, append_assoc}
 use Rattle.std.{proofs.Common.{take-add, slice_range}, proofs.lemmas.Str.{IsCharBoundary-after_ascii}}
+use Rattle.std.proofs.lemmas.List.Folds.{drop_split}
 use Rattle.std.proofs.lemmas.List.{drop_more, drop_all, take_more_set, append_cancel_right}
 use Rattle.data_url.specs.{Fetch.{plain_body}, Steps.Digits.{EscapeAt, cleaned}, declared.escapes.Piece.{Piece}}
 use Rattle.data_url.specs.Pieces.{Walk, text_of, IsStretch, bytes_of, has_ended, is_slice_end, walk_of}
@@ -24,10 +25,6 @@ use Rattle.data_url.proofs.{percent.Encoding.{decoded_escape}, runs.Runs.{none_o
 use Rattle.data_url.proofs.texts.Bytes.{after_same, after-dropped_none, before-append, is_cut}
 use Rattle.data_url.proofs.texts.Bytes.{without_tabs_and_newlines-append, before_all, after_at, after_nil}
 
--- a range, and then the text after it, is the text from the start of the range on
-slice_rest : (text : List ℕ) (a b : ℕ) → a ≤ b → slice_range text a b ++ drop b text ≡ drop a text
-slice_rest text a b l = grind (arith, drop-drop (b - a) a text, take-append-drop (b - a) (drop a text))
-
 -- two ranges, of which the second begins where the first ends, are one range
 slice_join : (text : List ℕ) (a b c : ℕ) → a ≤ b → b ≤ c → slice_range text a b ++ slice_range text b c
     ≡ slice_range text a c
@@ -47,7 +44,8 @@ none_before x y h = elim (none_or_some (after 35 x)) [
 no_hash : {text raw bytes : List ℕ} {from to : ℕ} → from ≤ to → Spells text from to raw bytes
     → after 35 (slice_range text from to) ≡ None
 no_hash {text} {raw} {bytes} {from} {to} l s =
-    none_before (slice_range text from to) (drop to text) (ap (after 35) (slice_rest text from to l) ∙ s.reads.after_is)
+    let whole = ap (after 35) (sym (drop_split text from to l)) in
+    none_before (slice_range text from to) (drop to text) (whole ∙ s.reads.after_is)
 
 -- what is spelled between two indices is the text there without tabs and newlines
 spelled : {text raw bytes : List ℕ} {from to : ℕ} → Spells text from to raw bytes
@@ -56,7 +54,7 @@ unfolding front
 spelled {text} {raw} {bytes} {from} {to} s =
     let few = s.reads.few in
     let no = no_hash (omega arith) s in
-    let whole = slice_rest text from to (omega arith) in
+    let whole = drop_split text from to (omega arith) in
     let x = slice_range text from to in
     let y = drop to text in
     let front = before-append 35 (without_tabs_and_newlines x) (without_tabs_and_newlines y) in

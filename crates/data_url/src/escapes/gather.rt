@@ -15,7 +15,7 @@ use super::pack::SEVERAL;
 /// How many bytes the buffer holds in which short stretches and values of escapes are gathered.
 pub(crate) const BUFFER_LEN: usize = 512;
 
-/// That buffer.
+/// The buffer itself.
 pub(super) type Buffer = [u8; BUFFER_LEN];
 
 impl<'a> Cursor<'a> {
@@ -40,10 +40,7 @@ impl<'a> Cursor<'a> {
             Ahead::AfterEscape => self.ahead = Ahead::Unknown,
             Ahead::Unknown | Ahead::End => {}
         }
-        while len <= BUFFER_LEN - 2 * BLOCK {
-            let Some(more) = self.gather_more(room, len) else {
-                break;
-            };
+        while let Some(more) = self.gather_more(room, len) {
             len = more;
         }
         if len > 0 {
@@ -60,17 +57,17 @@ impl<'a> Cursor<'a> {
     }
 
     /// Gathers the next block, or what is left of the last one, after the bytes that were gathered before. Returns how many
-    /// bytes are gathered then, or None if the body ends or a long stretch begins.
+    /// bytes are gathered then, or None if the body ends, a long stretch begins or there is no room for two blocks.
     #[inline(always)]
     fn gather_more(&mut self, room: &mut Buffer, len: usize) -> Option<usize>
         requires gathering { Gathering self.old }
-        requires room { len ≤ 384 }
+        requires few { len ≤ 512 }
         ensures gathered { Gathered self.old self.new room.old room.new len
             (option_map_or (λ n. n) result len) }
         ensures moves { IfSome result (λ _. Moves self.old self.new
             × (self.old.ahead ≡ Ahead.Unknown)) }
     {
-        if !matches!(self.ahead, Ahead::Unknown) {
+        if len > BUFFER_LEN - 2 * BLOCK || !matches!(self.ahead, Ahead::Unknown) {
             return None;
         }
         if self.place >= self.source.len() {

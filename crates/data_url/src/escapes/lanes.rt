@@ -50,8 +50,8 @@ const SECOND: [usize; 64] = [
 ];
 
 /// Returns the value of the escape that begins at each byte, or the byte if none does, and a bit for each byte at which an
-/// escape begins that ends in the block. `percents` has a bit for each `%`. Of the `codes`, which are the values of hexadecimal
-/// digits, and 16 or more for any other byte, `digits` has those of digits, and `letters` those of letters.
+/// escape begins that ends in the block. `percents` has a bit for each `%`. `codes` has the value of each hexadecimal digit,
+/// and 16 or more for any other byte. In `digits` only digits are less than 16, and in `letters` only letters.
 #[inline(always)]
 pub(super) fn decode_escapes(bytes: u8x64, percents: u64) -> (u8x64, u64)
     requires { percents ≡ mask_l (map (λ b. b == percent_sign) bytes) }

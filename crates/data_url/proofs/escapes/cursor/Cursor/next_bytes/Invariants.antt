@@ -3,8 +3,8 @@ use Rattle.std.proofs.Common.{length}
 use Rattle.data_url.{proofs.escapes.Walking.{measure}, specs.Pieces.{has_ended, text_of}, specs.Steps.Walk.{Gathered}}
 use Rattle.data_url.proofs.escapes.cursor.Cursor.next_bytes.Given as goal
 
-abbrev pub invariant-loop-len : goal.invariant-loop-len
-invariant-loop-len l = Gathered l.fn.self l.self l.fn.room l.room 0 l.len
+abbrev pub invariant-loop-more : goal.invariant-loop-more
+invariant-loop-more l = Gathered l.fn.self l.self l.fn.room l.room 0 l.len
 
-abbrev pub decreases-loop-len : goal.decreases-loop-len
-decreases-loop-len l = measure (length (text_of l.fn.self)) l.self.place (has_ended l.self.ahead)
+abbrev pub decreases-loop-more : goal.decreases-loop-more
+decreases-loop-more l = measure (length (text_of l.fn.self)) l.self.place (has_ended l.self.ahead)
