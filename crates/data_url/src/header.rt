@@ -55,8 +55,7 @@ fn serialised(alloc: Global, header: &[u8]) -> Result<String, AllocError>
     Ok(text)
 }
 
-/// Returns the text before `;`, spaces and `base64` (in any ASCII case) at the end of a header, or None if it ends
-/// otherwise.
+/// Returns the text before `;`, spaces and `base64` (in any ASCII case) at the end of a header, if it ends so.
 #[tactic(auto, using(crate::proofs::header::Serialising::suffixes))]
 fn without_suffix(header: &str) -> Option<&str>
     requires { IsPrintable header.now }

@@ -1,5 +1,4 @@
 //! Laws of the definitions that the contracts of this crate cite. Each is the contract of a function that does nothing.
-
 #![tactic(auto, using(crate::proofs::fragment::Encoded::laws))]
 
 ghost use Rattle.std.specs.Prelude.{◌≡◌, ◌↔◌, None};

@@ -1,5 +1,4 @@
 //! Percent-encoding (URL Standard, section 1.3).
-
 #![tactic(auto, using(crate::proofs::percent::Encoding::parts))]
 
 ghost use Rattle.std.specs.Prelude.{◌≡◌, ◌≤◌, ◌+◌, ◌++◌, OnOk, length, string_bytes, take, true};

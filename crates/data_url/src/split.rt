@@ -1,5 +1,4 @@
-//! Splits the input: its trimmed text, its scheme, its header, and what follows its first comma (URL Standard, section
-//! 4.4).
+//! Splits the input: trims it, and finds its scheme and its first comma (URL Standard, section 4.4).
 
 ghost use Rattle.std.specs.Prelude.{◌≡◌, None, IfSome, IfNone, true};
 ghost use Rattle.data_url.specs.Url.{after, comma, front, trimmed_text, without_tabs_and_newlines};
@@ -19,8 +18,7 @@ pub(crate) fn trim(text: &str) -> &str
     &text[..text.len() - end_span(Class::Control, text.as_bytes())]
 }
 
-/// What follows the scheme `data:` of a trimmed text, spelled in any ASCII case, with tabs and
-/// newlines anywhere.
+/// What follows the scheme `data:` of a trimmed text, spelled in any ASCII case, with tabs and newlines anywhere.
 #[tactic(auto, using(crate::proofs::split::Cuts::common_boundary, crate::proofs::split::Cuts::common_scheme))]
 pub(crate) fn after_scheme(text: &str) -> Option<&str>
     ensures found { IfSome result (λ rest. IsSchemeAndRest text.now rest.now) }

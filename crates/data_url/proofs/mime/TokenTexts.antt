@@ -270,19 +270,14 @@ pub ruleset quotes = (cut_quote, quote_at, after_quote, no_quote, IsCharBoundary
 abbrev plain : ℕ → Bool
 plain c = not (is_escaped c)
 
--- a first code point other than '"' and '\' stands for itself
-first_plain : (c : ℕ) (cs : List ℕ) → plain c ≡ true → unescaped false (c ∷ cs) ≡ c ∷ unescaped false cs
-first_plain c cs h = grind arith
-
 -- the bytes that a text begins with, and that are not marked, stand for themselves
 pub plain_front : (text : List ℕ) (n : ℕ) → n ≤ length text → ((i : ℕ) → slice_index text i < 256)
     → AreOf ESCAPED text n → unescaped false text ≡ take n text ++ unescaped false (drop n text)
 plain_front text zero l f h = refl
 plain_front [] (suc n) l f h = absurd (omega arith)
 plain_front (b ∷ text) (suc n) l f h =
-    let first = first_plain b text (unmarked_passes (is_marked ESCAPED) plain refl b (f 0) (h 0 (omega arith))) in
-    let more = plain_front text n (omega arith) (λ i. f (suc i)) (λ k m. h (suc k) (omega arith)) in
-    cc
+    let passes = unmarked_passes (is_marked ESCAPED) plain refl b (f 0) (h 0 (omega arith)) in
+    grind (arith, plain_front text n (omega arith) (λ i. f (suc i)) (λ k m. h (suc k) (omega arith)))
 
 -- the first bytes of a text are copied to a place of a value
 pub record IsCopied (text before value : List ℕ) (len n : ℕ) : Type 0 where
@@ -356,16 +351,12 @@ module _ {bs v : List ℕ} (u : IsUtf8 bs) (e : v ≡ unescaped false bs) where
   pub value_chars : chars v ≡ unescaped false (chars bs)
   value_chars = grind (arith, value_encodes, chars-encodes, unescaped_scalars, scalars-chars)
 
--- a code point other than '"' and '\' comes before the closing quote
-first_quoted : (c : ℕ) (s : List ℕ) → plain c ≡ true → quoted_len false (c ∷ s) ≡ suc (quoted_len false s)
-first_quoted c s h = grind arith
-
 -- so do those before the first '"' or '\'
 plain_quoted : (s : List ℕ) → prefix_len plain s + quoted_len false (drop (prefix_len plain s) s) ≡ quoted_len false s
 plain_quoted [] = refl
 plain_quoted (c ∷ s) = elim (plain c) as (λ v. plain c ≡ v → cond v (1 + prefix_len plain s) 0
     + quoted_len false (drop (cond v (1 + prefix_len plain s) 0) (c ∷ s)) ≡ quoted_len false (c ∷ s)) [
-      | true ↦ λ e. rw one-add (omega (arith, first_quoted c s e, plain_quoted s))
+      | true ↦ λ e. rw one-add (grind (arith, plain_quoted s))
       | false ↦ λ e. omega arith
     ] refl
 
