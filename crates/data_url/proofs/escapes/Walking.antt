@@ -7,7 +7,6 @@ use Rattle.std.proofs.lemmas.List.Folds.{drop_split}
 use Rattle.std.proofs.lemmas.List.{drop_more, drop_all, take_more_set, append_cancel_right}
 use Rattle.data_url.specs.{Fetch.{plain_body}, Steps.Digits.{EscapeAt, cleaned}, declared.escapes.Piece.{Piece}}
 use Rattle.data_url.specs.Pieces.{Walk, text_of, IsStretch, bytes_of, has_ended, is_slice_end, walk_of}
-use Rattle.data_url.proofs.escapes.EscapeDigits.{begins_other, cleaned_keeps}
 use Rattle.data_url.proofs.escapes.Reading.{spells_byte, spells_passed}
 use Rattle.data_url.specs.Steps.Chunks.{IsBodyPrefix, IsOver, Takes}
 use Rattle.data_url.proofs.escapes.Reading.{body_shorter}
