@@ -21,7 +21,8 @@ pub use Rattle.data_url.proofs.header.{Serialising.{suffix_stop}, Stages.{stages
 pub use Rattle.data_url.proofs.mime.{FirstNames.{test_from_different}, TokenTexts.{every_from_all}}
 pub use Rattle.data_url.proofs.percent.Encoding.{IsBytes, ascii_all, decoded_keeps, two_digits}
 pub use Rattle.data_url.proofs.runs.Runs.{match_alike, match_at_none, match_map, match_none, match_some, prefix_after}
-pub use Rattle.data_url.proofs.runs.Runs.{prefix_none, prefix_trans, run_counts, run_counts_up_to, run_ends, run_extends}
+pub use Rattle.data_url.proofs.runs.Runs.{prefix_none, prefix_trans, run_counts, run_counts_up_to, run_ends}
+pub use Rattle.data_url.proofs.runs.Runs.{run_extends}
 pub use Rattle.data_url.proofs.runs.Runs.{run_keeps, run_reads}
 pub use Rattle.data_url.proofs.texts.Bytes.{before-append, before_all, before_at, after-append, after-dropped_none}
 pub use Rattle.data_url.proofs.texts.Bytes.{after_at, after_nil, after_none, after_other, dropped_around}

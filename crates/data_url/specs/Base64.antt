@@ -3,9 +3,12 @@
 use Rattle.std.specs.Char.{is_ascii_whitespace}
 use Rattle.std.specs.Int.{is_in_range}
 use Rattle.std.specs.List.{find, list_all, list_any, range_with_len}
-use Rattle.data_url.specs.declared.forgiving_base64.InvalidBase64Details.TheVariants.{AlphabetSymbolAfterPadding, LoneAlphabetSymbol, Padding, UnexpectedSymbol}
+use Rattle.data_url.specs.declared.forgiving_base64.InvalidBase64Details.TheVariants.{AlphabetSymbolAfterPadding}
+use Rattle.data_url.specs.declared.forgiving_base64.InvalidBase64Details.TheVariants.{LoneAlphabetSymbol, Padding}
+use Rattle.data_url.specs.declared.forgiving_base64.InvalidBase64Details.TheVariants.{UnexpectedSymbol}
 use Rattle.data_url.specs.declared.forgiving_base64.InvalidBase64Details.{InvalidBase64Details}
-use Rattle.std.specs.Prelude.{[], if◌then◌else◌, ◌%◌, ◌&&◌, ◌*◌, ◌++◌, ◌+◌, ◌-◌, ◌/◌, ◌==◌, ◌||◌, ◌∷◌, Bool, List, None, Option, Some, filter, length, map, min, not, replicate, slice_index, take, ℕ}
+use Rattle.std.specs.Prelude.{[], if◌then◌else◌, ◌%◌, ◌&&◌, ◌*◌, ◌++◌, ◌+◌, ◌-◌, ◌/◌, ◌==◌, ◌||◌, ◌∷◌, Bool, List, None}
+use Rattle.std.specs.Prelude.{Option, Some, filter, length, map, min, not, replicate, slice_index, take, ℕ}
 
 -- a symbol of the alphabet: 'A' to 'Z', 'a' to 'z', '0' to '9', '+' and '/'
 abbrev pub is_symbol : ℕ → Bool

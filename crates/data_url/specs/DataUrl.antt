@@ -3,13 +3,16 @@
 use Rattle.std.specs.Option.{option_map}
 use Rattle.std.specs.Prelude.{◌≡◌, ◌≤◌, Bool, Err, List, MatchOption, Ok, Option, Result, Some, length, ℕ}
 use Rattle.data_url.specs.Errors.{IsRefused}
-use Rattle.data_url.specs.Fetch.{Accepted, Bad, Good, NoComma, NoScheme, Outcome, Staged, has_base64_suffix, header_of, mime_text, outcome, outcome_bytes, plain_body, staged, tail_of}
+use Rattle.data_url.specs.Fetch.{Accepted, Bad, Good, NoComma, NoScheme, Outcome, Staged, has_base64_suffix, header_of}
+use Rattle.data_url.specs.Fetch.{mime_text, outcome, outcome_bytes, plain_body, staged, tail_of}
 use Rattle.data_url.specs.Mime.{IsRecordOf, IsWellformed}
 use Rattle.data_url.specs.MimeType.{record_of}
 use Rattle.data_url.specs.Run.{Call, IsRun, joined_pieces, refusal}
-use Rattle.data_url.specs.Url.{after, fragment, in_fragment_set, number_sign, percent_encoding, without_tabs_and_newlines}
+use Rattle.data_url.specs.Url.{after, fragment, in_fragment_set, number_sign, percent_encoding}
+use Rattle.data_url.specs.Url.{without_tabs_and_newlines}
 use Rattle.data_url.specs.declared.DataUrl.{DataUrl}
-use Rattle.data_url.specs.declared.DataUrlError.TheVariants.{NoComma as no_comma, NotADataUrl as no_scheme, OutOfMemory as no_memory}
+use Rattle.data_url.specs.declared.DataUrlError.TheVariants.{NoComma as no_comma, NotADataUrl as no_scheme}
+use Rattle.data_url.specs.declared.DataUrlError.TheVariants.{OutOfMemory as no_memory}
 use Rattle.data_url.specs.declared.DataUrlError.{DataUrlError}
 use Rattle.data_url.specs.declared.fragment.FragmentIdentifier.{FragmentIdentifier}
 use Rattle.data_url.specs.declared.forgiving_base64.DecodeError.TheVariants.{InvalidBase64}

@@ -1,7 +1,9 @@
 -- What contracts see of a `Decoder`, and what feeding and finishing one does (Infra Standard,
 -- forgiving-base64 decode), in terms of the input so far.
-use Rattle.std.specs.Prelude.{[], ◌++◌, ◌≡◌, ◌≤◌, Bool, Err, List, MatchBool, MatchOption, Ok, Result, false, is_err, length, take, ℕ}
-use Rattle.data_url.specs.Base64.{decoded, complete_bytes, first_fault, is_valid, kind_of, left_padding, left_symbols, left_text}
+use Rattle.std.specs.Prelude.{[], ◌++◌, ◌≡◌, ◌≤◌, Bool, Err, List, MatchBool, MatchOption, Ok, Result, false, is_err}
+use Rattle.std.specs.Prelude.{length, take, ℕ}
+use Rattle.data_url.specs.Base64.{decoded, complete_bytes, first_fault, is_valid, kind_of, left_padding, left_symbols}
+use Rattle.data_url.specs.Base64.{left_text}
 use Rattle.data_url.specs.Errors.{IsRefused}
 use Rattle.data_url.specs.Run.{Call, IsRun, joined_pieces, refusal}
 use Rattle.data_url.specs.declared.forgiving_base64.DecodeError.TheVariants.{InvalidBase64}

@@ -1,11 +1,13 @@
 -- The data: URL processor (Fetch Standard, section 6), stage by stage, over whole byte sequences.
 use Rattle.std.specs.Char.{to_ascii_lowercase}
 use Rattle.std.specs.Option.{option_map, option_map_or}
-use Rattle.std.specs.Prelude.{[], if◌then◌else◌, ◌++◌, ◌-◌, ◌==◌, ◌∷◌, Bool, List, None, Option, Some, codes, drop, is_some, length, map, option_and_then, take, unwrap_or, ℕ}
+use Rattle.std.specs.Prelude.{[], if◌then◌else◌, ◌++◌, ◌-◌, ◌==◌, ◌∷◌, Bool, List, None, Option, Some, codes, drop}
+use Rattle.std.specs.Prelude.{is_some, length, map, option_and_then, take, unwrap_or, ℕ}
 use Rattle.std.specs.Str.{bytes_eq}
 use Rattle.data_url.specs.Base64.{Kind, decoded, complete_bytes, is_valid, kind_of}
 use Rattle.data_url.specs.Percent.{percent_decoding}
-use Rattle.data_url.specs.Url.{after, after_scheme, before, comma, fragment, front, in_fragment_set, percent_encoding, serialised, trimmed_text, without_end, without_start, without_tabs_and_newlines}
+use Rattle.data_url.specs.Url.{after, after_scheme, before, comma, fragment, front, in_fragment_set, percent_encoding}
+use Rattle.data_url.specs.Url.{serialised, trimmed_text, without_end, without_start, without_tabs_and_newlines}
 
 -- Header and body
 

@@ -1,7 +1,8 @@
 -- Laws about the definitions, which the contracts of `laws` state.
 use Rattle.std.specs.Int.{is_in_range}
 use Rattle.std.specs.Prelude.{◌&&◌, ◌++◌, ◌==◌, ◌||◌, ◌≡◌, Bool, List, Some, codes, is_some, not, ℕ}
-use Rattle.data_url.specs.Base64.{decoded, complete_bytes, first_fault, is_valid, kind_of, left_padding, left_symbols, left_text}
+use Rattle.data_url.specs.Base64.{decoded, complete_bytes, first_fault, is_valid, kind_of, left_padding, left_symbols}
+use Rattle.data_url.specs.Base64.{left_text}
 use Rattle.data_url.specs.Fetch.{staged, staged_fragment}
 
 -- what is true of a followed by b, from v, the text of what a left over followed by b: the complete

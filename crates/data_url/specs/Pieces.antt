@@ -2,7 +2,8 @@
 -- its text.
 use Rattle.std.specs.Char.{is_ascii_hexdigit}
 use Rattle.std.specs.Option.{option_map_or}
-use Rattle.std.specs.Prelude.{[], ◌-◌, ◌<◌, ◌==◌, ◌||◌, ◌∷◌, ◌≡◌, ◌≤◌, Bool, List, Option, drop, false, slice_index, slice_range, true, ℕ}
+use Rattle.std.specs.Prelude.{[], ◌-◌, ◌<◌, ◌==◌, ◌||◌, ◌∷◌, ◌≡◌, ◌≤◌, Bool, List, Option, drop, false, slice_index}
+use Rattle.std.specs.Prelude.{slice_range, true, ℕ}
 use Rattle.data_url.specs.Fetch.{plain_body}
 use Rattle.data_url.specs.Percent.{begins_with_escape, percent_decoding}
 use Rattle.data_url.specs.Url.{front, is_tab_or_newline, number_sign, without_tabs_and_newlines}

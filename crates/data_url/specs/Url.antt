@@ -2,7 +2,8 @@
 -- bytes.
 use Rattle.std.specs.Char.{to_ascii_lowercase}
 use Rattle.std.specs.List.{flat_map, prefix_len, suffix_len}
-use Rattle.std.specs.Prelude.{[], if◌then◌else◌, ◌%◌, ◌++◌, ◌+◌, ◌-◌, ◌/◌, ◌==◌, ◌||◌, ◌∷◌, Bool, List, None, Option, Some, codes, drop, filter, length, map, nat_le, nat_lt, not, take, ℕ}
+use Rattle.std.specs.Prelude.{[], if◌then◌else◌, ◌%◌, ◌++◌, ◌+◌, ◌-◌, ◌/◌, ◌==◌, ◌||◌, ◌∷◌, Bool, List, None, Option}
+use Rattle.std.specs.Prelude.{Some, codes, drop, filter, length, map, nat_le, nat_lt, not, take, ℕ}
 use Rattle.std.specs.Str.{bytes_eq}
 
 -- '#' begins the fragment, '%' begins an escape, and ',' begins the body

@@ -1,12 +1,8 @@
 //! Bodies: a closure is called with their bytes, piece by piece.
 
-ghost use Rattle.std.specs.Prelude.{◌+◌, ◌≡◌, ◌≤◌, false, length, true};
-ghost use Rattle.std.specs.Fn.{CalledAt};
-ghost use Rattle.data_url.specs.Steps.Chunks.{IsBodyPrefix, IsCallableUntilError, TakesRest};
-ghost use Rattle.data_url.specs.Steps.Tail.{IsBodyEnd};
-ghost use Rattle.data_url.specs.Fetch.{outcome, plain_body};
-ghost use Rattle.data_url.specs.DataUrl.{Decodes};
-ghost use Rattle.data_url.specs.Steps.Whole.{IsBodyInVec};
+ghost use Rattle.std.specs.{Prelude.{◌+◌, ◌≡◌, ◌≤◌, false, length, true}, Fn.{CalledAt}};
+ghost use Rattle.data_url.specs.Steps.{Chunks.{IsBodyPrefix, IsCallableUntilError, TakesRest}, Tail.{IsBodyEnd}};
+ghost use Rattle.data_url.specs.{Fetch.{outcome, plain_body}, DataUrl.{Decodes}, Steps.Whole.{IsBodyInVec}};
 ghost use Rattle.data_url.specs.Decoder.{state_of};
 
 use crate::escapes::{BUFFER_LEN, Pieces};
@@ -19,8 +15,7 @@ const FIRST_ROOM: usize = 64 * 1024;
 /// How many bytes of a long text are looked at before room is allocated for it.
 const PROBED: usize = 4 * 1024;
 
-/// Calls a closure with the rest of a body, until it returns an error. Returns this error, or the place in the text where the body
-/// ends.
+/// Calls a closure with the rest of a body. Returns the place in the text where the body ends, or the closure's error.
 fn take_rest<F, E>(mut pieces: Pieces<'_>, take: &mut F) -> Result<usize, E>
 where
     F: FnMut(&[u8]) -> Result<(), E>,
@@ -41,10 +36,8 @@ where
     Ok(pieces.end())
 }
 
-/// Calls a closure with the decoded bytes of a body of base64, from the text after the comma. Returns the place in the text
-/// where the body ends.
-///
-/// The text before its first `%` and `#` is decoded where it is, with its tabs and newlines. What is left is the rest of a body.
+/// Calls a closure with the decoded bytes of a body of base64. Returns the place in the text where the body ends. The text before
+/// its first `%` and `#` is decoded where it is.
 pub(crate) fn decode_base64<F, E>(tail: &str, write: F) -> (Result<usize, DecodeError<E>>, F)
 where
     F: FnMut(&[u8]) -> Result<(), E>,
@@ -71,8 +64,7 @@ where
     }
 }
 
-/// Calls a closure with a body that is not base64, from its prefix and the pieces after it. Returns the place in the text where
-/// the body ends.
+/// Calls a closure with a body that is not base64: its prefix, and the pieces after it. Returns the place where the body ends.
 pub(crate) fn decode_plain<F, E>(
     prefix: &[u8],
     pieces: Pieces<'_>,
@@ -94,8 +86,7 @@ where
     (place.map_err(DecodeError::WriteError), write)
 }
 
-/// Returns a body that is not base64 in a vector, and the place in the text where it ends. Room for a body that is its text up to
-/// the fragment is allocated once.
+/// Returns a body that is not base64 in a vector, and the place in the text where it ends.
 pub(crate) fn plain_to_vec(alloc: Global, tail: &str) -> Result<(Vec<u8>, usize), DecodeToVecError>
     ensures { IsBodyInVec false tail.now result }
 {
@@ -116,8 +107,7 @@ pub(crate) fn plain_to_vec(alloc: Global, tail: &str) -> Result<(Vec<u8>, usize)
     }
 }
 
-/// Returns how many symbols of base64 room is allocated for first: for the whole tail if it is short, or if its first bytes have
-/// no tab, newline, `%` or `#`. A search of all of it would cost a seventh of decoding.
+/// Returns how many symbols room is allocated for first: for all of the tail if it is short, or if its first bytes are symbols.
 fn first_len(tail: &str) -> usize {
     let probed = tail.get(..PROBED).unwrap_or("");
     if tail.len() <= FIRST_ROOM || Pieces::after_prefix(probed).0.len() == PROBED {

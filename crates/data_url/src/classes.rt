@@ -1,7 +1,6 @@
 //! Classes of bytes: six are looked up in one table, the others are compared.
 
-ghost use Rattle.std.specs.Prelude.{◌≡◌, ◌<◌, ◌≤◌, false, length, true, ℕ};
-ghost use Rattle.std.specs.List.{prefix_len, suffix_len};
+ghost use Rattle.std.specs.{Prelude.{◌≡◌, ◌<◌, ◌≤◌, false, length, true, ℕ}, List.{prefix_len, suffix_len}};
 ghost use Rattle.data_url.specs.Steps.Classes.{in_class, is_marked};
 
 pub(crate) mod lanes;
@@ -40,23 +39,17 @@ pub(crate) enum Class {
 }
 
 /// Has one byte for each byte, with a bit for each of the six classes that it is in.
-#[rattlefmt::skip]
 const CLASSES: [u8; 256] = [
-    32, 32, 32, 32, 32, 32, 32, 32, 32, 54, 48, 32, 32, 48, 32, 32,
-    32, 32, 32, 32, 32, 32, 32, 32, 32, 32, 32, 32, 32, 32, 32, 32,
-    62, 47, 14, 39, 47, 47, 47, 47, 46, 46, 47, 47, 38, 47, 47, 46,
-    47, 47, 47, 47, 47, 47, 47, 47, 47, 47, 46, 42, 46, 46, 46, 38,
-    46, 47, 47, 47, 47, 47, 47, 47, 47, 47, 47, 47, 47, 47, 47, 47,
-    47, 47, 47, 47, 47, 47, 47, 47, 47, 47, 47, 46, 14, 46, 47, 47,
-    47, 47, 47, 47, 47, 47, 47, 47, 47, 47, 47, 47, 47, 47, 47, 47,
-    47, 47, 47, 47, 47, 47, 47, 47, 47, 47, 47, 46, 47, 46, 47, 32,
-    38, 38, 38, 38, 38, 38, 38, 38, 38, 38, 38, 38, 38, 38, 38, 38,
-    38, 38, 38, 38, 38, 38, 38, 38, 38, 38, 38, 38, 38, 38, 38, 38,
-    38, 38, 38, 38, 38, 38, 38, 38, 38, 38, 38, 38, 38, 38, 38, 38,
-    38, 38, 38, 38, 38, 38, 38, 38, 38, 38, 38, 38, 38, 38, 38, 38,
-    38, 38, 38, 38, 32, 32, 32, 32, 32, 32, 32, 32, 32, 32, 32, 32,
-    32, 32, 32, 32, 32, 32, 32, 32, 32, 32, 32, 32, 32, 32, 32, 32,
-    32, 32, 32, 32, 32, 32, 32, 32, 32, 32, 32, 32, 32, 32, 32, 32,
+    32, 32, 32, 32, 32, 32, 32, 32, 32, 54, 48, 32, 32, 48, 32, 32, 32, 32, 32, 32, 32, 32, 32, 32,
+    32, 32, 32, 32, 32, 32, 32, 32, 62, 47, 14, 39, 47, 47, 47, 47, 46, 46, 47, 47, 38, 47, 47, 46,
+    47, 47, 47, 47, 47, 47, 47, 47, 47, 47, 46, 42, 46, 46, 46, 38, 46, 47, 47, 47, 47, 47, 47, 47,
+    47, 47, 47, 47, 47, 47, 47, 47, 47, 47, 47, 47, 47, 47, 47, 47, 47, 47, 47, 46, 14, 46, 47, 47,
+    47, 47, 47, 47, 47, 47, 47, 47, 47, 47, 47, 47, 47, 47, 47, 47, 47, 47, 47, 47, 47, 47, 47, 47,
+    47, 47, 47, 46, 47, 46, 47, 32, 38, 38, 38, 38, 38, 38, 38, 38, 38, 38, 38, 38, 38, 38, 38, 38,
+    38, 38, 38, 38, 38, 38, 38, 38, 38, 38, 38, 38, 38, 38, 38, 38, 38, 38, 38, 38, 38, 38, 38, 38,
+    38, 38, 38, 38, 38, 38, 38, 38, 38, 38, 38, 38, 38, 38, 38, 38, 38, 38, 38, 38, 38, 38, 38, 38,
+    38, 38, 38, 38, 32, 32, 32, 32, 32, 32, 32, 32, 32, 32, 32, 32, 32, 32, 32, 32, 32, 32, 32, 32,
+    32, 32, 32, 32, 32, 32, 32, 32, 32, 32, 32, 32, 32, 32, 32, 32, 32, 32, 32, 32, 32, 32, 32, 32,
     32, 32, 32, 32, 32, 32, 32, 32, 32, 32, 32, 32, 32, 32, 32, 32,
 ];
 
@@ -103,10 +96,8 @@ pub(crate) fn end_span(class: Class, bytes: &[u8]) -> usize
     from_end.take_while(|byte| has(class, **byte)).count()
 }
 
-/// How many bytes at the start are in a class, counted in rows of sixteen. This is faster than `span` if there are
-/// many.
+/// How many bytes at the start are in a class, counted in rows of sixteen: faster than `span` if there are many.
 #[inline(always)]
-#[rattlefmt::skip]
 pub(crate) fn long_span(class: Class, bytes: &[u8]) -> usize
     ensures prefix { result ≡ prefix_len (in_class class) bytes.now }
     ensures within { result ≤ length bytes.now }
@@ -114,9 +105,15 @@ pub(crate) fn long_span(class: Class, bytes: &[u8]) -> usize
     // For each low half of a byte, the bits of the columns in which such a byte may be outside the class. A class whose
     // runs are short in most texts has all bits.
     let others = match class {
-        Class::Quotable => [129, 129, 129, 129, 129, 129, 129, 129, 129, 129, 129, 129, 129, 129, 129, 193],
-        Class::Unquoted => [129, 129, 129, 129, 129, 129, 129, 129, 129, 129, 129, 133, 129, 129, 129, 193],
-        Class::PlainPath => [129, 129, 129, 131, 129, 129, 129, 129, 129, 129, 129, 129, 131, 129, 129, 197],
+        Class::Quotable => [
+            129, 129, 129, 129, 129, 129, 129, 129, 129, 129, 129, 129, 129, 129, 129, 193,
+        ],
+        Class::Unquoted => [
+            129, 129, 129, 129, 129, 129, 129, 129, 129, 129, 129, 133, 129, 129, 129, 193,
+        ],
+        Class::PlainPath => [
+            129, 129, 129, 131, 129, 129, 129, 129, 129, 129, 129, 129, 131, 129, 129, 197,
+        ],
         Class::Unescaped => ESCAPED,
         _ => [255; 16],
     };

@@ -3,10 +3,8 @@
 
 ghost use Rattle.std.specs.Prelude.{◌≡◌, ◌+◌, ◌*◌, ◌≤◌, ◌++◌, [], IfNone, IfSome, IsTrue, None, drop, length};
 ghost use Rattle.std.specs.Option.{option_map};
-ghost use Rattle.data_url.specs.Pieces.{IsPiece, walk_at_start, bytes_of_next};
-ghost use Rattle.data_url.specs.Url.{after, number_sign};
-ghost use Rattle.data_url.specs.Steps.Chunks.{GivesBytes, IsBodyFrom, IsBodyPrefix};
-ghost use Rattle.data_url.specs.Steps.Tail.{IsBodyEnd};
+ghost use Rattle.data_url.specs.{Pieces.{IsPiece, walk_at_start, bytes_of_next}, Url.{after, number_sign}};
+ghost use Rattle.data_url.specs.Steps.{Chunks.{GivesBytes, IsBodyFrom, IsBodyPrefix}, Tail.{IsBodyEnd}};
 
 mod cursor;
 mod digits;
@@ -44,8 +42,7 @@ pub struct Pieces<'a> {
 }
 
 impl<'a> Model for Pieces<'a> {
-    ghost use Rattle.data_url.specs.Pieces.{Walk, walk_of};
-    ghost use Rattle.data_url.specs.Steps.Walk.{Knows};
+    ghost use Rattle.data_url.specs.{Pieces.{Walk, walk_of}, Steps.Walk.{Knows}};
 
     ghost Value = { Walk };
 
@@ -64,8 +61,7 @@ impl<'a> Pieces<'a> {
         }
     }
 
-    /// Returns the bytes of a text before its first tab, newline, `%` or `#`, which are bytes of the body, and the pieces
-    /// after them.
+    /// Returns the bytes of a text before its first mark, which are bytes of the body, and the pieces after them.
     #[inline(always)]
     pub(crate) fn after_prefix(text: &'a str) -> (&'a [u8], Self)
         ensures { IsBodyPrefix text.entry.now result.0.now result.1 }

@@ -15,8 +15,7 @@ pub struct FragmentIdentifier<'a> {
 
 impl<'a> FragmentIdentifier<'a> {
     ghost use Rattle.std.specs.Prelude.{string_bytes};
-    ghost use Rattle.data_url.specs.Url.{encoded_fragment};
-    ghost use Rattle.data_url.specs.DataUrl.{fragment_text};
+    ghost use Rattle.data_url.specs.{Url.{encoded_fragment}, DataUrl.{fragment_text}};
 
     /// Returns the fragment with this text.
     pub(crate) fn new(text: &'a str) -> Self

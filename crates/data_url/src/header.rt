@@ -1,8 +1,7 @@
 //! The header of a data: URL (Fetch Standard, section 6), from its text in the input.
 
 ghost use Rattle.std.specs.Prelude.{◌≡◌, IfOk, IfSome, List, string_bytes, true, ℕ};
-ghost use Rattle.data_url.specs.Url.{without_tabs_and_newlines};
-ghost use Rattle.data_url.specs.Fetch.{before_base64, with_plain};
+ghost use Rattle.data_url.specs.{Url.{without_tabs_and_newlines}, Fetch.{before_base64, with_plain}};
 ghost use Rattle.data_url.specs.Mime.{Record, default_record};
 ghost use Rattle.data_url.specs.Steps.Header.{IsHeaderOf, IsPathAndQuery, IsPrintable, IsRecordFor, IsSerialised, encoded_parts, header_text};
 ghost use Rattle.data_url.specs.MimeType.{as_option, record_of};
@@ -15,8 +14,7 @@ use std::alloc::{AllocError, Global};
 
 const SUFFIX: [u8; 6] = *b"base64";
 
-/// Splits off the space at the end of a path that a query follows; tabs and newlines after the space are skipped.
-/// Returns the path without it, and the space as it is written.
+/// Splits off the space at the end of a path that a query follows. Returns the path without it, and the space as it is written.
 #[tactic(auto, using(crate::proofs::header::Serialising::last_spaces))]
 fn split_last_space<'a>(path: &'a [u8], query: &[u8]) -> (&'a [u8], &'static str)
     ensures { (header : List ℕ) → IsPathAndQuery header path.now query.now
@@ -33,8 +31,7 @@ fn split_last_space<'a>(path: &'a [u8], query: &[u8]) -> (&'a [u8], &'static str
     (&path[..end - 1], "%20")
 }
 
-/// Returns the text of a header, serialised. Room for a text as long as the header is allocated first, and grows if
-/// more is written. A short header is encoded at once, and then room for it is allocated.
+/// Returns the text of a header, serialised. Room is allocated by the length of a long header; a short one is encoded before.
 #[inline(never)]
 #[tactic(auto, using(crate::proofs::header::Serialising::serialising))]
 fn serialised(alloc: Global, header: &[u8]) -> Result<String, AllocError>

@@ -1,11 +1,9 @@
 //! Data: URLs by the Fetch Standard, from a text rather than a parsed URL, to avoid copies.
 #![tactic(auto)]
 
-ghost use Rattle.std.specs.Prelude.{◌≡◌, ◌≤◌, ◌+◌, IfErr, IfOk, Some, length};
-ghost use Rattle.std.specs.Fn.{CalledAt};
+ghost use Rattle.std.specs.{Prelude.{◌≡◌, ◌≤◌, ◌+◌, IfErr, IfOk, Some, length}, Fn.{CalledAt}};
 ghost use Rattle.data_url.specs.DataUrl.{Decodes, IsFragmentOf, IsProcessed, mime_of, url_body, url_tail};
-ghost use Rattle.data_url.specs.Fetch.{Good};
-ghost use Rattle.data_url.specs.Errors.{IsBodyErrorOf};
+ghost use Rattle.data_url.specs.{Fetch.{Good}, Errors.{IsBodyErrorOf}};
 
 mod body;
 mod classes;

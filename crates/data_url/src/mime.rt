@@ -61,8 +61,7 @@ impl Eq for Mime {
 /// `"` and each `\`.
 impl fmt::Display for Mime {
     ghost use Rattle.std.specs.Str.{encode_utf8_all};
-    ghost use Rattle.data_url.specs.Mime.{printed};
-    ghost use Rattle.data_url.specs.MimeType.{record_of};
+    ghost use Rattle.data_url.specs.{Mime.{printed}, MimeType.{record_of}};
 
     ghost output = { λ mime. Some (encode_utf8_all (printed (record_of mime))) };
 
@@ -126,10 +125,8 @@ impl fmt::Display for MimeFromStrError {
 impl Error for MimeFromStrError {}
 
 impl Mime {
-    ghost use Rattle.std.specs.Prelude.{string_bytes};
-    ghost use Rattle.std.specs.Str.{chars};
-    ghost use Rattle.data_url.specs.Mime.{HasNoRecord, IsWellformed, Parses};
-    ghost use Rattle.data_url.specs.Errors.{IsParsingError};
+    ghost use Rattle.std.specs.{Prelude.{string_bytes}, Str.{chars}};
+    ghost use Rattle.data_url.specs.{Mime.{HasNoRecord, IsWellformed, Parses}, Errors.{IsParsingError}};
     ghost use Rattle.data_url.specs.MimeType.{SameTexts, as_option, record_of, value_of_name};
 
     /// Returns the record of a type and a subtype as they are given, with no parameters. Allocates the two texts.

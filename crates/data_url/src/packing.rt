@@ -107,8 +107,7 @@ pub(crate) fn pack_row(row: u8x16, dropped: usize, bytes: &mut [u8], at: usize) 
     middle + count
 }
 
-/// Writes the bytes of a block whose bits are 0 at a place, and returns the place after them. Up to sixteen bytes after that
-/// may be overwritten.
+/// Does with a block what `pack_row` does with a row.
 #[inline(always)]
 pub(crate) fn pack_block(block: u8x64, dropped: u64, bytes: &mut [u8], at: usize) -> usize
     requires room { at + 80 ≤ length bytes.old }

@@ -7,7 +7,8 @@ use Rattle.std.proofs.lemmas.List.{drop_all, drop_more, length-drop, take_all}
 use Rattle.data_url.specs.DataUrl.{IsAcceptable}
 use Rattle.data_url.specs.Fetch.{has_base64_suffix, header_of, staged}
 use Rattle.data_url.specs.Url.{after, is_c0_control_or_space, trimmed_text, without_tabs_and_newlines}
-use Rattle.data_url.proofs.api.{IsBytes, bytes_trimmed, flag_encoded, flag_false, flag_true, header_text, spelled_scheme}
+use Rattle.data_url.proofs.api.{IsBytes, bytes_trimmed, flag_encoded, flag_false, flag_true, header_text}
+use Rattle.data_url.proofs.api.{spelled_scheme}
 use Rattle.data_url_c.specs.Steps.Opening.{HasFlag}
 use Rattle.data_url_c.proofs.OpenLemmas.{cut_at, none_before}
 use Rattle.data_url_c.proofs.ProbeLemmas.{HasScheme, known_header, trimmed_front}

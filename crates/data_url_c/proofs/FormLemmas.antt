@@ -1,5 +1,6 @@
 -- MIME types that are written in parts.
-use Rattle.std.proofs.Common.{◌≡◌, ℕ, ◌+◌, ◌-◌, ◌^◌, ◌≤◌, ◌<◌, List, [], ◌∷◌, ◌++◌, length, drop, get_or, map, min, take}
+use Rattle.std.proofs.Common.{◌≡◌, ℕ, ◌+◌, ◌-◌, ◌^◌, ◌≤◌, ◌<◌, List, [], ◌∷◌, ◌++◌, length, drop, get_or, map, min}
+use Rattle.std.proofs.Common.{take}
 use Rattle.std.proofs.Common.{refl, sym, ap, ◌∙◌, subst, arith, append_assoc, length-append, codes, Bool, true, false}
 use Rattle.std.proofs.lemmas.List.{append-nil, drop_all, drop_more, length-drop, length-take}
 use Rattle.std.proofs.lemmas.Slice.{drop-append-drop}

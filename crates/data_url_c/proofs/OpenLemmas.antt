@@ -15,14 +15,16 @@ use Rattle.data_url.specs.Base64.{after_groups, decoded, groups, is_valid, value
 use Rattle.data_url.specs.Base64.{without_padding, without_whitespace}
 use Rattle.data_url.specs.DataUrl.{IsAcceptable, IsUrlOf, is_base64, mime_of, url_body, url_tail}
 use Rattle.std.specs.Option.{option_map}
-use Rattle.data_url.specs.Fetch.{Accepted, has_base64_suffix, header_of, mime_text, outcome, plain_body, staged, tail_of}
+use Rattle.data_url.specs.Fetch.{Accepted, has_base64_suffix, header_of, mime_text, outcome, plain_body, staged}
+use Rattle.data_url.specs.Fetch.{tail_of}
 use Rattle.data_url.specs.Mime.{HasNoRecord, IsRecordOf, Record, default_record}
 use Rattle.data_url.specs.MimeType.{record_of}
 use Rattle.data_url.specs.declared.DataUrl.{DataUrl}
 use Rattle.data_url.specs.declared.mime.Mime.{Mime}
 use Rattle.std.proofs.Common.{◌^◌}
 use Rattle.data_url.specs.Percent.{percent_decoding}
-use Rattle.data_url.specs.Url.{fragment, in_fragment_set, percent_encoding, before, after, front, is_c0_control_or_space, trimmed_text, without_tabs_and_newlines}
+use Rattle.data_url.specs.Url.{fragment, in_fragment_set, percent_encoding, before, after, front}
+use Rattle.data_url.specs.Url.{is_c0_control_or_space, trimmed_text, without_tabs_and_newlines}
 use Rattle.data_url.proofs.api.{IsBytes, before_at, after_none, bytes_by_place, bytes_trimmed, on_literals}
 use Rattle.data_url_c.specs.Answers.{Crosses, Shows}
 use Rattle.data_url_c.specs.Gives.{RefusesUrl}

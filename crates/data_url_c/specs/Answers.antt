@@ -2,9 +2,12 @@
 use Rattle.std.specs.Global.{Global}
 use Rattle.std.specs.Prelude.{◌+◌, ◌++◌, ◌<◌, ◌≡◌, ◌≤◌, Err, List, Ok, Result, Vec, drop, length, ℕ}
 use Rattle.data_url.specs.Base64.{Kind}
-use Rattle.data_url.specs.declared.forgiving_base64.InvalidBase64Details.TheVariants.{AlphabetSymbolAfterPadding, LoneAlphabetSymbol, Padding, UnexpectedSymbol}
+use Rattle.data_url.specs.declared.forgiving_base64.InvalidBase64Details.TheVariants.{AlphabetSymbolAfterPadding}
+use Rattle.data_url.specs.declared.forgiving_base64.InvalidBase64Details.TheVariants.{LoneAlphabetSymbol, Padding}
+use Rattle.data_url.specs.declared.forgiving_base64.InvalidBase64Details.TheVariants.{UnexpectedSymbol}
 use Rattle.data_url_c.specs.declared.answer.DataUrlAnswer.{DataUrlAnswer}
-use Rattle.data_url_c.specs.declared.refusal.Refusal.TheVariants.{InvalidBase64, NoComma, NoFragment, NotADataUrl, NotAMimeType, NotUtf8, OutOfMemory}
+use Rattle.data_url_c.specs.declared.refusal.Refusal.TheVariants.{InvalidBase64, NoComma, NoFragment, NotADataUrl}
+use Rattle.data_url_c.specs.declared.refusal.Refusal.TheVariants.{NotAMimeType, NotUtf8, OutOfMemory}
 use Rattle.data_url_c.specs.declared.refusal.Refusal.{Refusal}
 
 -- a result: bytes, or why there are none

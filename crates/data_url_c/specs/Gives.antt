@@ -1,12 +1,14 @@
 -- What each function returns for its input.
-use Rattle.std.specs.Prelude.{[], ◌≡◌, Err, IsUtf8, List, None, Ok, Option, Some, chars, encode_utf8_all, false, true, ℕ}
+use Rattle.std.specs.Prelude.{[], ◌≡◌, Err, IsUtf8, List, None, Ok, Option, Some, chars, encode_utf8_all, false, true}
+use Rattle.std.specs.Prelude.{ℕ}
 use Rattle.data_url.specs.Base64.{decoded, complete_bytes, is_valid, kind_of}
 use Rattle.data_url.specs.DataUrl.{IsAcceptable}
 use Rattle.data_url.specs.Fetch.{Accepted, Bad, Good, NoComma as no_comma, NoScheme, Outcome, staged}
 use Rattle.data_url.specs.Mime.{HasNoRecord, IsRecordOf, Parses, Record, printed}
 use Rattle.data_url_c.specs.Answers.{Given}
 use Rattle.data_url_c.specs.Forms.{parts_of, serialised}
-use Rattle.data_url_c.specs.declared.refusal.Refusal.TheVariants.{InvalidBase64, NoComma, NoFragment, NotADataUrl, NotAMimeType, NotUtf8, OutOfMemory}
+use Rattle.data_url_c.specs.declared.refusal.Refusal.TheVariants.{InvalidBase64, NoComma, NoFragment, NotADataUrl}
+use Rattle.data_url_c.specs.declared.refusal.Refusal.TheVariants.{NotAMimeType, NotUtf8, OutOfMemory}
 use Rattle.data_url_c.specs.declared.refusal.Refusal.{Refusal}
 
 -- why bytes are not a data: URL: they are not UTF-8, or the Standard finds no scheme or no comma; or

@@ -1,6 +1,7 @@
 -- What opening a URL returns: its MIME type, its tail, and whether its body is base64.
 use Rattle.std.specs.Prelude.{◌+◌, ◌≡◌, ◌≤◌, Err, IsUtf8, List, Ok, Option, Some, drop, false, length, take, ℕ}
-use Rattle.data_url.specs.Fetch.{Accepted, has_base64_suffix, header_of, mime_text, outcome, plain_body, staged, tail_of}
+use Rattle.data_url.specs.Fetch.{Accepted, has_base64_suffix, header_of, mime_text, outcome, plain_body, staged}
+use Rattle.data_url.specs.Fetch.{tail_of}
 use Rattle.data_url.specs.Mime.{IsRecordOf, Record}
 use Rattle.data_url_c.specs.Answers.{Crosses, Given}
 use Rattle.data_url_c.specs.Forms.{parts_of, serialised}

@@ -1,7 +1,9 @@
 -- Base64 in parts: what feeding a part does, and what finishing does.
 use Rattle.std.specs.List.{list_all}
-use Rattle.std.specs.Prelude.{◌&&◌, ◌+◌, ◌++◌, ◌<◌, ◌≡◌, ◌≤◌, Bool, List, MatchBool, MatchOption, drop, false, length, nat_le, nat_lt, take, true, ℕ}
-use Rattle.data_url.specs.Base64.{complete_bytes, decoded, first_fault, is_symbol, is_valid, kind_of, left_padding, left_symbols, left_text}
+use Rattle.std.specs.Prelude.{◌&&◌, ◌+◌, ◌++◌, ◌<◌, ◌≡◌, ◌≤◌, Bool, List, MatchBool, MatchOption, drop, false, length}
+use Rattle.std.specs.Prelude.{nat_le, nat_lt, take, true, ℕ}
+use Rattle.data_url.specs.Base64.{complete_bytes, decoded, first_fault, is_symbol, is_valid, kind_of, left_padding}
+use Rattle.data_url.specs.Base64.{left_symbols, left_text}
 use Rattle.data_url_c.specs.Answers.{status_of_kind}
 use Rattle.data_url_c.specs.declared.parts.DataUrlBase64.{DataUrlBase64}
 use Rattle.data_url_c.specs.declared.parts.DataUrlFed.{DataUrlFed}

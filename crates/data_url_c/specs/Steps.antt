@@ -2,7 +2,9 @@
 pub mod Opening
 pub mod Windows
 use Rattle.std.specs.Global.{Global}
-use Rattle.std.specs.Prelude.{Bool, Err, IsUtf8, List, MatchBool, MatchOption, None, Ok, Option, Result, Some, Vec, [], drop, encode_utf8_all, false, is_some, length, min, option_map, slice_index, take, true, ℕ, ◌++◌, ◌+◌, ◌-◌, ◌<◌, ◌==◌, ◌^◌, ◌∷◌, ◌≡◌, ◌≤◌, ◌⊎◌}
+use Rattle.std.specs.Prelude.{Bool, Err, IsUtf8, List, MatchBool, MatchOption, None, Ok, Option, Result, Some, Vec, []}
+use Rattle.std.specs.Prelude.{drop, encode_utf8_all, false, is_some, length, min, option_map, slice_index, take, true}
+use Rattle.std.specs.Prelude.{ℕ, ◌++◌, ◌+◌, ◌-◌, ◌<◌, ◌==◌, ◌^◌, ◌∷◌, ◌≡◌, ◌≤◌, ◌⊎◌}
 use Rattle.data_url.specs.DataUrl.{Answers, IsAcceptable, IsUrlOf, mime_of, url_body, url_tail}
 use Rattle.data_url.specs.Fetch.{Bad, Good, Outcome, plain_body, outcome_bytes}
 use Rattle.data_url.specs.Mime.{IsRecordOf, Record, printed}
@@ -13,7 +15,8 @@ use Rattle.data_url_c.specs.Answers.{Crosses, Given, Shows, status_of_kind}
 use Rattle.data_url_c.specs.Forms.{parts_of, serialised}
 use Rattle.data_url_c.specs.Gives.{GivesMime, RefusesUrl}
 use Rattle.data_url_c.specs.declared.answer.DataUrlAnswer.{DataUrlAnswer}
-use Rattle.data_url_c.specs.declared.refusal.Refusal.TheVariants.{InvalidBase64, NoComma, NoFragment, NotADataUrl, OutOfMemory}
+use Rattle.data_url_c.specs.declared.refusal.Refusal.TheVariants.{InvalidBase64, NoComma, NoFragment, NotADataUrl}
+use Rattle.data_url_c.specs.declared.refusal.Refusal.TheVariants.{OutOfMemory}
 use Rattle.data_url.specs.Base64.{Kind, complete_bytes, decoded, first_fault, is_valid, kind_of}
 use Rattle.data_url.specs.Run.{Call, IsRun, joined_pieces}
 use Rattle.data_url.specs.declared.forgiving_base64.DecodeError.{DecodeError}

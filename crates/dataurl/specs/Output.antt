@@ -1,5 +1,6 @@
 -- What each command writes for an input, and how it ends.
-use Rattle.std.specs.Prelude.{[], ◌++◌, ◌∷◌, ◌≡◌, Err, IsUtf8, List, None, Ok, Option, Result, Some, chars, encode_utf8_all, false, true, ℕ}
+use Rattle.std.specs.Prelude.{[], ◌++◌, ◌∷◌, ◌≡◌, Err, IsUtf8, List, None, Ok, Option, Result, Some, chars}
+use Rattle.std.specs.Prelude.{encode_utf8_all, false, true, ℕ}
 use Rattle.data_url.specs.Base64.{decoded, complete_bytes, first_fault, is_valid, kind_of}
 use Rattle.data_url.specs.Fetch.{Accepted, Bad, Good, NoComma as no_comma, NoScheme, Outcome, staged}
 use Rattle.data_url.specs.Mime.{HasNoRecord, IsRecordOf, Parses, Record, printed}

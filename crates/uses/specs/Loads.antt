@@ -7,7 +7,8 @@ use Rattle.data_url.specs.Mime.{IsRecordOf}
 use Rattle.data_url.specs.MimeType.{record_of}
 use Rattle.data_url.specs.Run.{IsPrefix}
 use Rattle.data_url.specs.declared.mime.Mime.{Mime}
-use Rattle.uses.specs.declared.loader.LoadError.TheVariants.{InvalidBase64, NoComma, NotADataUrl, OutOfMemory, OverLimit, SinkFailed}
+use Rattle.uses.specs.declared.loader.LoadError.TheVariants.{InvalidBase64, NoComma, NotADataUrl, OutOfMemory}
+use Rattle.uses.specs.declared.loader.LoadError.TheVariants.{OverLimit, SinkFailed}
 use Rattle.uses.specs.declared.loader.LoadError.{LoadError}
 
 -- what a sink holds, if that is known

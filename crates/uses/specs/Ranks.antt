@@ -1,5 +1,6 @@
 -- Which accepted MIME type matches a MIME type best.
-use Rattle.std.specs.Prelude.{[], if◌then◌else◌, ◌&&◌, ◌<◌, ◌∷◌, ◌≡◌, ◌≤◌, Bool, List, None, Option, Some, codes, false, length, slice_index, string_bytes, true, ℕ}
+use Rattle.std.specs.Prelude.{[], if◌then◌else◌, ◌&&◌, ◌<◌, ◌∷◌, ◌≡◌, ◌≤◌, Bool, List, None, Option, Some, codes, false}
+use Rattle.std.specs.Prelude.{length, slice_index, string_bytes, true, ℕ}
 use Rattle.std.specs.Str.{bytes_eq}
 use Rattle.data_url.specs.MimeType.{same_texts}
 use Rattle.data_url.specs.declared.mime.Mime.{Mime}

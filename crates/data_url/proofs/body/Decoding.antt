@@ -16,7 +16,8 @@ use Rattle.data_url.specs.Steps.{Holding.{ReadsFront, RefusesFront}, Window.{is_
 use Rattle.data_url.specs.Url.{is_tab_or_newline, number_sign}
 use Rattle.std.{proofs.lemmas.Bool.{and_parts, cases_Bool}, specs.Char.{is_ascii_whitespace}, specs.List.{list_all}}
 use Rattle.std.proofs.Common.{drop, take, inl, inr, ◌==◌, not, length-take-le, take-append-drop}
-use Rattle.data_url.proofs.escapes.{EscapeDigits.{begins_other, cleaned_keeps, cleaned_passes}, Reading.{decoded_byte, plain_is}}
+use Rattle.data_url.proofs.escapes.{EscapeDigits.{begins_other, cleaned_keeps, cleaned_passes}, Reading.{decoded_byte}}
+use Rattle.data_url.proofs.escapes.Reading.{plain_is}
 use Rattle.data_url.proofs.{forgiving_base64.Holding.{reads_feeds}, texts.Bytes.{after_other}}
 use Rattle.data_url.specs.Steps.Digits.{cleaned}
 use Rattle.data_url.specs.{Steps.Whole.{DecodesText}, declared.forgiving_base64.DecodeError.{DecodeError}}
@@ -299,8 +300,9 @@ module _ {C F E : Type 0} {outer : C → List ℕ → Result (Unit {0}) (DecodeE
       let t = rw e at took in
       let k = match_at (refusal t.run) (Some x) _ _ (sym t.gave.0)
       (fed (take place tail) c c' t.run (reads_feeds step (rw s at front.reads)) t.ran) in
-      let whole : (take place tail ++ joined_pieces t.run) ++ t.gave.1.0 ≡ take place tail ++ plain_body (drop place tail)
-      = cc (from.rest_is, t.gave.1.1, append_assoc (take place tail) (joined_pieces t.run) t.gave.1.0) in
+      let whole : (take place tail ++ joined_pieces t.run) ++ t.gave.1.0 ≡ take place tail
+      ++ plain_body (drop place tail) =
+      cc (from.rest_is, t.gave.1.1, append_assoc (take place tail) (joined_pieces t.run) t.gave.1.0) in
       outcome_of step 0 (Err x) (front_body tail place front.within front.plain)
       (decodes_refused step refl (rw whole at (feeds_err step t.gave.1.0 k))) (λ e. absurd (cc))
 

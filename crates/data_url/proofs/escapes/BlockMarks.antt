@@ -1,6 +1,7 @@
 -- Blocks of a text and their marks: lanes that are looked up in a table and compared. For `marks_of` and
 -- `next_mark`.
-use Rattle.std.proofs.Common.{slice_index, Bool, Fits, List, ap, arith, bit_and, cond, drop, eqb, eqb-true, get_or, inl, inr}
+use Rattle.std.proofs.Common.{slice_index, Bool, Fits, List, ap, arith, bit_and, cond, drop, eqb, eqb-true, get_or, inl}
+use Rattle.std.proofs.Common.{inr}
 use Rattle.std.proofs.Common.{leb, length, length-take-le, map, map-id, not, refl, replicate, slice_range, suc}
 use Rattle.std.proofs.Common.{sym, take, take-take, take_all, true, w8, zero, [], ℕ, ◌%◌, ◌++◌, ◌+◌, ◌-◌, ◌/◌, ◌<◌}
 use Rattle.std.proofs.{Common.{◌^◌, ◌∙◌, ◌∷◌, ◌≡◌, ◌≢◌, ◌≤◌}, Math.Nat.{div-div-eq-div-mul, pow-suc}}
@@ -153,7 +154,8 @@ looking_read : {s s' : Source} {b : Block} {place seen marks : ℕ} (bytes : Lis
 looking_read {s} {s'} {b} {place} {seen} {marks} bytes k unseen t end within short n e m =
     let width : length bytes ≡ seen - place = omega (arith, end) in
     let all : bytes ≡ slice_range s'.text.now place seen =
-    e ∙ ap (λ j. take j (drop place s.text.now)) width ∙ ap (λ (x : List ℕ). take (seen - place) (drop place x)) (sym t) in
+    e ∙ ap (λ j. take j (drop place s.text.now)) width
+    ∙ ap (λ (x : List ℕ). take (seen - place) (drop place x)) (sym t) in
     record {
       block = record {
         base_le = omega (arith, end);
@@ -186,8 +188,8 @@ pub looking_rest : {s s' : Source} {b : Block} {place marks : ℕ} (rest : List 
 looking_rest {s} {place = place} rest k unseen t few e m n =
     let long : length rest ≡ length s.text.now - place = ap length e ∙ length-drop place s.text.now in
     looking_read rest k unseen t refl (omega (arith, long, k.within)) (omega (arith, long, few))
-    (omega (arith, n, long, k.within)) (e ∙ sym (take_all (length rest) (drop place s.text.now) (omega (arith, ap length e))))
-    m
+    (omega (arith, n, long, k.within))
+    (e ∙ sym (take_all (length rest) (drop place s.text.now) (omega (arith, ap length e)))) m
 
 -- if the marks of a block are not 0, their number of trailing zeros is that of the bytes before the next mark
 pub found : {text : List ℕ} {place seen marks : ℕ} (width : ℕ) → IsBlock text place seen marks → marks ≢ 0

@@ -1,6 +1,11 @@
 -- Base64 texts and what the definitions say about them, by computation.
-use Rattle.std.proofs.Common.{refl, ◌≡◌, ℕ, Bool, true, false, List, [], ◌∷◌, ◌++◌, Option, None, Some, codes, map, replicate}
-use Rattle.data_url.specs.{Base64.{Kind, complete_bytes, decoded, first_fault, is_valid, kind_of, left_padding, left_symbols, left_text}, declared.forgiving_base64.InvalidBase64Details.TheVariants.{AlphabetSymbolAfterPadding, LoneAlphabetSymbol, Padding, UnexpectedSymbol}}
+use Rattle.std.proofs.Common.{refl, ◌≡◌, ℕ, Bool, true, false, List, [], ◌∷◌, ◌++◌, Option, None, Some, codes, map}
+use Rattle.std.proofs.Common.{replicate}
+use Rattle.data_url.specs.Base64.{Kind, complete_bytes, decoded, first_fault, is_valid, kind_of, left_padding}
+use Rattle.data_url.specs.Base64.{left_symbols, left_text}
+use Rattle.data_url.specs.declared.forgiving_base64.InvalidBase64Details.TheVariants.{AlphabetSymbolAfterPadding}
+use Rattle.data_url.specs.declared.forgiving_base64.InvalidBase64Details.TheVariants.{LoneAlphabetSymbol, Padding}
+use Rattle.data_url.specs.declared.forgiving_base64.InvalidBase64Details.TheVariants.{UnexpectedSymbol}
 use Rattle.data_url.proofs.examples.Literals.{on_literals}
 
 -- valid texts, each with its bytes; the last has both ends of each range of the alphabet

@@ -1,6 +1,7 @@
 -- Whole texts and the result of the data: URL processor for them, by computation.
 use Rattle.std.proofs.Common.{◌≡◌, ℕ, List, [], ◌∷◌, ◌++◌, None, Some, codes, map, refl}
-use Rattle.data_url.specs.{Fetch.{Accepted, Bad, Good, NoComma, NoScheme, Staged, staged, tail_of}, declared.forgiving_base64.InvalidBase64Details.TheVariants.{Padding, UnexpectedSymbol}}
+use Rattle.data_url.specs.Fetch.{Accepted, Bad, Good, NoComma, NoScheme, Staged, staged, tail_of}
+use Rattle.data_url.specs.declared.forgiving_base64.InvalidBase64Details.TheVariants.{Padding, UnexpectedSymbol}
 use Rattle.data_url.proofs.examples.Literals.{on_literals}
 
 -- texts, each with its result

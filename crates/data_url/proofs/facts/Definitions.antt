@@ -1,6 +1,9 @@
 -- What the lemmas of `facts` say about the definitions of specs/.
-use Rattle.std.specs.{Prelude.{◌%◌, ◌++◌, ◌<◌, ◌↔◌, ◌≡◌, ◌≢◌, ◌⊎◌, Bool, IsTrue, List, None, Option, Some, false, length, replicate, ℕ}, Option.{option_map}}
-use Rattle.data_url.specs.{Base64.{without_whitespace, is_fault, is_symbol, is_valid}, Fetch.{before_comma, has_base64_suffix}, Mime.{Every, Item, Items, Parses, Record}, Url.{before, after, in_path_set, percent_encoding, with_query}}
+use Rattle.std.specs.Prelude.{◌%◌, ◌++◌, ◌<◌, ◌↔◌, ◌≡◌, ◌≢◌, ◌⊎◌, Bool, IsTrue, List, None, Option, Some, false, length}
+use Rattle.std.specs.{Prelude.{replicate, ℕ}, Option.{option_map}}
+use Rattle.data_url.specs.{Base64.{without_whitespace, is_fault, is_symbol, is_valid}, Fetch.{before_comma}}
+use Rattle.data_url.specs.{Fetch.{has_base64_suffix}, Mime.{Every, Item, Items, Parses, Record}, Url.{before, after}}
+use Rattle.data_url.specs.Url.{in_path_set, percent_encoding, with_query}
 
 -- the text is a concatenation of parameters, and has exactly one list of items
 pub record HasOneItemList (r : List ℕ) : Type 0 where

@@ -3,7 +3,8 @@ use Rattle.std.proofs.Common.{sym, get_or, take, drop, refl, ap, ap₂, arith, l
 use Rattle.std.proofs.Common.{get_or-take, take-append-drop, append-nil, take-take, take_at}
 use Rattle.std.proofs.Common.{drop-drop, length-drop}
 use Rattle.std.proofs.Common.{length-take-le, ◌∙◌, false, min, None, take-add, append_assoc, length-append, ◌/◌}
-use Rattle.std.proofs.Common.{◌≡◌, ℕ, Bool, ◌+◌, ◌*◌, ◌≤◌, true, ◌&&◌, ◌||◌, List, [], ◌∷◌, ◌++◌, map, length, ◌-◌, replicate, zero, suc}
+use Rattle.std.proofs.Common.{◌≡◌, ℕ, Bool, ◌+◌, ◌*◌, ◌≤◌, true, ◌&&◌, ◌||◌, List, [], ◌∷◌, ◌++◌, map, length, ◌-◌}
+use Rattle.std.proofs.Common.{replicate, zero, suc}
 use Rattle.std.{proofs.Math.Seq.{take-append-add}, proofs.lemmas.Bool.{and_parts}, specs.Char.{is_ascii_whitespace}}
 use Rattle.std.{proofs.lemmas.List.Elements.{filter-append}, proofs.lemmas.List.Folds.{list_all-append}}
 use Rattle.std.proofs.lemmas.List.Sums.{list_all-from_AllPass, prefix_len-le-length, prefix_len_passes}

@@ -1,10 +1,13 @@
 -- Feeding while decoded bytes are held. For the functions of `Decoder` that feed.
 use Rattle.std.proofs.Common.{Option, None, Some, is_some, Result, Ok, Err, refl, ap, sym, ◌∙◌, subst, arith}
 use Rattle.std.proofs.Common.{append_assoc, drop-drop, length-append, take-append-drop, append-nil}
-use Rattle.std.proofs.Common.{false, cond, min, ◌&&◌, ◌||◌, List, [], ◌∷◌, ◌++◌, length, map, drop, get_or, take, take-add}
+use Rattle.std.proofs.Common.{false, cond, min, ◌&&◌, ◌||◌, List, [], ◌∷◌, ◌++◌, length, map, drop, get_or, take}
+use Rattle.std.proofs.Common.{take-add}
 use Rattle.std.{proofs.Common.{get_or-drop, length-drop, MatchResult}, specs.Option.{option_or}}
-use Rattle.std.proofs.Common.{eqb, eqb-true, inl, inr, slice_index, ◌≡◌, ℕ, ◌+◌, ◌-◌, ◌/◌, ◌<◌, ◌≤◌, length-take-le, Bool, true}
-use Rattle.std.{proofs.lemmas.Bool.{and_parts, cases_Bool, true≢false}, specs.List.{filter, list_all}, specs.Result.{result_err}}
+use Rattle.std.proofs.Common.{eqb, eqb-true, inl, inr, slice_index, ◌≡◌, ℕ, ◌+◌, ◌-◌, ◌/◌, ◌<◌, ◌≤◌, length-take-le}
+use Rattle.std.proofs.Common.{Bool, true}
+use Rattle.std.{proofs.lemmas.Bool.{and_parts, cases_Bool, true≢false}, specs.List.{filter, list_all}}
+use Rattle.std.specs.Result.{result_err}
 use Rattle.std.proofs.lemmas.{List.{nil_from_length, take_more, take_rest}, List.Folds.{list_all-append, list_all_more}}
 use Rattle.data_url.specs.Base64.{Kind, after_groups, first_fault, groups, is_symbol, left_padding, left_symbols}
 use Rattle.data_url.specs.{Base64.{symbol_value}, Decoder.{Feeds, IsLeft, State, left_over}, Run.{IsRun, joined_pieces}}
@@ -14,7 +17,8 @@ use Rattle.data_url.specs.Steps.Holding.{Adds, CallsOnce, EndsWithin, Gains, IsB
 use Rattle.data_url.specs.declared.forgiving_base64.DecodeError.{DecodeError}
 use Rattle.data_url.specs.declared.forgiving_base64.DecodeError.TheVariants.{InvalidBase64, WriteError}
 use Rattle.data_url.proofs.forgiving_base64.Groups.{symbols_alone}
-use Rattle.data_url.proofs.forgiving_base64.Padding.{every_list_all, fault-append, fault_byte, fault_none, filter_all, is_pad}
+use Rattle.data_url.proofs.forgiving_base64.Padding.{every_list_all, fault-append, fault_byte, fault_none, filter_all}
+use Rattle.data_url.proofs.forgiving_base64.Padding.{is_pad}
 use Rattle.data_url.proofs.forgiving_base64.Padding.{is_bad, length-after_groups, passed}
 use Rattle.data_url.proofs.forgiving_base64.Steps.{IsSound, adds_none, adds_text, fault_space, fault_symbol}
 use Rattle.data_url.proofs.forgiving_base64.Steps.{feeds_then, has_pad, left_goes_on, one_call, told_call}

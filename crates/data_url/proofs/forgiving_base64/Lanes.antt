@@ -4,7 +4,8 @@ use Rattle.std.proofs.Common.{◌+◌, ◌*◌, ◌/◌, ◌%◌, ◌^◌, refl,
 use Rattle.std.proofs.Common.{take-add, replicate}
 use Rattle.std.specs.List.{range_with_len, list_all}
 use Rattle.std.proofs.lemmas.List.{drop_all, drop_more, length-map, take-map, take-take}
-use Rattle.std.proofs.lemmas.Simd.{SwzOk, SwzOk-from_below, swz_l, get_or_narrower, below_from_Fits, pick_l_left, pick_l-range_with_len}
+use Rattle.std.proofs.lemmas.Simd.{SwzOk, SwzOk-from_below, swz_l, get_or_narrower, below_from_Fits, pick_l_left}
+use Rattle.std.proofs.lemmas.Simd.{pick_l-range_with_len}
 use Rattle.data_url.specs.{Base64.{group_number, groups, is_symbol, symbol_value}}
 use Rattle.data_url.specs.Steps.Lanes.{DecodesFront, offset_row, number_bytes, numbers, value_of}
 use Rattle.data_url.proofs.forgiving_base64.Vectors.{chosen, joined, each_map, each_take, front_values, put_three}

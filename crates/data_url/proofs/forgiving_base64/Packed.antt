@@ -1,5 +1,6 @@
 -- Rows with gaps, and units of symbols with white space between them. For `gaps.rt`.
-use Rattle.std.proofs.Common.{List, ◌++◌, map, ◌≡◌, ℕ, ◌<◌, ◌≤◌, ◌+◌, ◌*◌, ◌-◌, ◌/◌, ◌%◌, ◌^◌, true, false, cond, get_or, ⊎_elim}
+use Rattle.std.proofs.Common.{List, ◌++◌, map, ◌≡◌, ℕ, ◌<◌, ◌≤◌, ◌+◌, ◌*◌, ◌-◌, ◌/◌, ◌%◌, ◌^◌, true, false, cond}
+use Rattle.std.proofs.Common.{get_or, ⊎_elim}
 use Rattle.std.proofs.Common.{length-take-le, length, take, drop, ap, sym, ◌∙◌, arith, take-take, take-append-drop}
 use Rattle.std.proofs.Common.{append_assoc, append-nil, take-add, take_at, suc, zero, refl, [], ◌∷◌}
 use Rattle.std.proofs.Math.Seq.{take-append-add}

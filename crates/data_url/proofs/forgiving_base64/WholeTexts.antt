@@ -10,7 +10,8 @@ use Rattle.data_url.specs.{Steps.Whole.{DecodesText}, declared.forgiving_base64.
 use Rattle.data_url.proofs.{forgiving_base64.Groups.{two_feeds}, runs.Runs.{prefix_trans, refusal-append, run-append}}
 use Rattle.data_url.proofs.forgiving_base64.Padding.{fault_byte, fault_invalid, none_fault, valid_no_fault}
 use Rattle.data_url.proofs.forgiving_base64.Steps.{bool_at_false, bool_at_true, feeds_none, feeds_goes_on, feeds_took}
-use Rattle.data_url.proofs.runs.Runs.{joined_pieces-append, match_at, match_map, match_none, prefix_all, run_keeps, run_reads}
+use Rattle.data_url.proofs.runs.Runs.{joined_pieces-append, match_at, match_map, match_none, prefix_all, run_keeps}
+use Rattle.data_url.proofs.runs.Runs.{run_reads}
 
 -- `MatchBool b P Q` gives that b is true, with P, or that b is false, with Q
 split_bool : (b : Bool) (P Q : Type 0) → MatchBool b P Q → ((b ≡ true) × P) ⊎ ((b ≡ false) × Q)

@@ -1,7 +1,13 @@
 -- An encoded fragment is read again as it is.
 use Rattle.std.proofs.{Common.{◌≡◌, ℕ, ◌<◌, true, List, [], ◌∷◌, Some, refl, arith}, lemmas.Bool.{agree_below_at}}
-use Rattle.data_url.specs.{Fetch.{encoded_body, header_of, staged, staged_fragment, staged_front}, Laws.{IsReadAgain, is_fragment_byte}, Mime.{Every}, Url.{serialised, trimmed_text, after_scheme, before, after, cleaned_text, without_tabs_and_newlines, encoded_path, fragment, front, hex_digit, in_fragment_set, percent_encoding}}
-use Rattle.data_url.proofs.{header.Stages.{bytes_by_place, bytes_dropped}, texts.CodePoints.{end_stays, not_ends_every}, mime.RoundTrips.{same_seen, seen_same, printed_only, printed_parses, printed_same}, percent.Encoding.{IsBytes, encoded_cons, encoded_nil, is_recoded, recoded-decoded}, texts.Bytes.{dropped_keeps, dropped_nil}}
+use Rattle.data_url.specs.{Fetch.{encoded_body, header_of, staged, staged_fragment, staged_front}, Laws.{IsReadAgain}}
+use Rattle.data_url.specs.{Laws.{is_fragment_byte}, Mime.{Every}, Url.{serialised, trimmed_text, after_scheme, before}}
+use Rattle.data_url.specs.Url.{after, cleaned_text, without_tabs_and_newlines, encoded_path, fragment, front, hex_digit}
+use Rattle.data_url.specs.Url.{in_fragment_set, percent_encoding}
+use Rattle.data_url.proofs.{header.Stages.{bytes_by_place, bytes_dropped}, texts.CodePoints.{end_stays, not_ends_every}}
+use Rattle.data_url.proofs.mime.RoundTrips.{same_seen, seen_same, printed_only, printed_parses, printed_same}
+use Rattle.data_url.proofs.percent.Encoding.{IsBytes, encoded_cons, encoded_nil, is_recoded, recoded-decoded}
+use Rattle.data_url.proofs.texts.Bytes.{dropped_keeps, dropped_nil}
 
 -- an encoded fragment can have each upper-case hexadecimal digit
 digit_byte : (d : ℕ) → d < 16 → is_fragment_byte (hex_digit d) ≡ true

@@ -1,8 +1,20 @@
 -- Whether a header has the suffix ";base64", from its end. For callers that know only this end.
-use Rattle.std.proofs.{lemmas.Grind.{common_steps}, Common.{None, Some, ap, ◌∙◌, arith, Bool, true, false, ◌++◌, length-append, refl, sym, inl, inr, append_assoc, append-nil, ◌==◌, ◌≡◌, ◌≢◌, ℕ, ◌+◌, ◌-◌, ◌≤◌, List, [], ◌∷◌, length, get_or, take, drop, map, codes, get_or-drop, eqb-true, take_all, length-drop, take-append-drop, ◌%◌, ◌/◌, Option}, lemmas.Bool.{and_parts, cases_Bool}, lemmas.List.{drop-append-le, drop_all, drop_more, get_or-map, get_or_at, length-map}, lemmas.List.Folds.{prefix_len-append}, lemmas.List.Sums.{prefix_len-le-length}}
+use Rattle.std.proofs.{lemmas.Grind.{common_steps}, Common.{None, Some, ap, ◌∙◌, arith, Bool, true, false, ◌++◌}}
+use Rattle.std.proofs.Common.{length-append, refl, sym, inl, inr, append_assoc, append-nil, ◌==◌, ◌≡◌, ◌≢◌, ℕ, ◌+◌, ◌-◌}
+use Rattle.std.proofs.Common.{◌≤◌, List, [], ◌∷◌, length, get_or, take, drop, map, codes, get_or-drop, eqb-true}
+use Rattle.std.proofs.{Common.{take_all, length-drop, take-append-drop, ◌%◌, ◌/◌, Option}, lemmas.Bool.{and_parts}}
+use Rattle.std.proofs.lemmas.{Bool.{cases_Bool}, List.{drop-append-le, drop_all, drop_more, get_or-map, get_or_at}}
+use Rattle.std.proofs.lemmas.List.{length-map, Folds.{prefix_len-append}, Sums.{prefix_len-le-length}}
 use Rattle.std.specs.{Char.{to_ascii_lowercase}, Prelude.{◌&&◌, ◌||◌, not}, List.{list_all, suffix_len}}
-use Rattle.data_url.specs.{Fetch.{before_base64, has_base64_suffix, is_space, stripped_header}, Steps.Header.{header_text}, Steps.Split.{is_plain_path}, Url.{encoded_byte, hex_digit, in_path_set, in_query_set, is_tab_or_newline, percent_encoding, without_start, without_tabs_and_newlines}}
-use Rattle.data_url.proofs.{split.Cuts.{cut_at}, header.Serialising.{before_last_after, last_after, no_word, suffix_stop, word}, percent.Encoding.{encoded_cons, encoded_nil, header_byte_set, header_nil, header_path, header_query, percent_encoding-append}, texts.Bytes.{after_nil, dropped_keeps, dropped_nil, without_tabs_and_newlines-append}}
+use Rattle.data_url.specs.Fetch.{before_base64, has_base64_suffix, is_space, stripped_header}
+use Rattle.data_url.specs.{Steps.{Header.{header_text}, Split.{is_plain_path}}, Url.{encoded_byte, hex_digit}}
+use Rattle.data_url.specs.Url.{in_path_set, in_query_set, is_tab_or_newline, percent_encoding, without_start}
+use Rattle.data_url.specs.Url.{without_tabs_and_newlines}
+use Rattle.data_url.proofs.{split.Cuts.{cut_at}, header.Serialising.{before_last_after, last_after, no_word}}
+use Rattle.data_url.proofs.{header.Serialising.{suffix_stop, word}, percent.Encoding.{encoded_cons, encoded_nil}}
+use Rattle.data_url.proofs.percent.Encoding.{header_byte_set, header_nil, header_path, header_query}
+use Rattle.data_url.proofs.{percent.Encoding.{percent_encoding-append}, texts.Bytes.{after_nil, dropped_keeps}}
+use Rattle.data_url.proofs.texts.Bytes.{dropped_nil, without_tabs_and_newlines-append}
 
 -- a byte that is serialised as it is in a path and in a query, also at the end
 abbrev is_kept : ℕ → Bool

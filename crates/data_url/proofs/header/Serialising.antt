@@ -1,8 +1,28 @@
 -- The suffix `;base64` of a header, and its serialised path and query. For `header.rt`.
-use Rattle.std.proofs.{lemmas.Grind.{common_steps}, Common.{None, Some, ap, ◌∙◌, arith, suc, Bool, false, ◌++◌, length-append, reverse, Option, get_or-drop, append-nil, take-append-drop, is_some, refl, append_assoc, ◌⊎◌, true, sym, inl, inr, eqb-true, zero, option_and_then, ◌==◌, length-take, get_or-take, length-drop, length-take-le, take-take, ◌≡◌, ◌≢◌, ℕ, ◌+◌, ◌-◌, ◌<◌, ◌≤◌, List, [], ◌∷◌, length, get_or, take, drop, map, codes}, Math.Seq.{drop-append-add, take-append-add}, lemmas.Bool.{cases_lt, ne_eqb, cases_Bool, not-true, not-false}, lemmas.List.Folds.{prefix_len-append}, lemmas.Slice.Eq.{bytes_eq-Decides}, lemmas.List.Sums.{prefix_len_passes, prefix_len_stops, suffix_len-le-length, prefix_len-drop_no, prefix_len-le-length}, lemmas.List.{length-map, drop_all, drop_more, drop-append-le, get_or_at, get_or-map, reverse-append, take_rest, get_or-reverse, length-reverse}}
+use Rattle.std.proofs.{lemmas.Grind.{common_steps}, Common.{None, Some, ap, ◌∙◌, arith, suc, Bool, false, ◌++◌}}
+use Rattle.std.proofs.Common.{length-append, reverse, Option, get_or-drop, append-nil, take-append-drop, is_some, refl}
+use Rattle.std.proofs.Common.{append_assoc, ◌⊎◌, true, sym, inl, inr, eqb-true, zero, option_and_then, ◌==◌}
+use Rattle.std.proofs.Common.{length-take, get_or-take, length-drop, length-take-le, take-take, ◌≡◌, ◌≢◌, ℕ, ◌+◌, ◌-◌}
+use Rattle.std.proofs.Common.{◌<◌, ◌≤◌, List, [], ◌∷◌, length, get_or, take, drop, map, codes}
+use Rattle.std.proofs.{Math.Seq.{drop-append-add, take-append-add}, lemmas.Bool.{cases_lt, ne_eqb, cases_Bool}}
+use Rattle.std.proofs.lemmas.{Bool.{not-true, not-false}, List.Folds.{prefix_len-append}, Slice.Eq.{bytes_eq-Decides}}
+use Rattle.std.proofs.lemmas.List.Sums.{prefix_len_passes, prefix_len_stops, suffix_len-le-length, prefix_len-drop_no}
+use Rattle.std.proofs.lemmas.List.{length-map, drop_all, drop_more, drop-append-le, Sums.{prefix_len-le-length}}
+use Rattle.std.proofs.lemmas.List.{get_or_at, get_or-map, reverse-append, take_rest, get_or-reverse, length-reverse}
 use Rattle.std.specs.{Option.{option_map}, Str.{bytes_eq}, Char.{to_ascii_lowercase}, List.{suffix_len, prefix_len}}
-use Rattle.data_url.specs.{Steps.Header.{header_text, is_no_question_mark, IsPrintable, HasNoLastSpace, IsPathAndQuery, WithoutSpace, encoded_parts}, Fetch.{before_base64, before_semicolon, is_space, before_word, has_base64_suffix, stripped_header, before_comma}, Steps.Parsing.{DoesNotEnd}, Url.{encoded_byte, encoded_path, in_path_set, in_query_set, is_tab_or_newline, is_c0_control_or_space, without_end, before, after, without_tabs_and_newlines, percent_encoding, after_scheme, cleaned_text, serialised, trimmed_text, with_query}}
-use Rattle.data_url.proofs.{facts.Definitions.{base64_flag, serialised_with_spaces}, split.Cuts.{cut_at}, header.Stages.{low_end, printable_take}, percent.Encoding.{encoded, encoded_cons, encoded_nil, path_cons, path_nil}, texts.Bytes.{before_all, before_at, after-dropped_none, after_at, after_none, dropped_around, before_other, after_other, is_cut, dropped_keeps, dropped_nil, dropped_passes, before-append, after-append}}
+use Rattle.data_url.specs.Steps.Header.{header_text, is_no_question_mark, IsPrintable, HasNoLastSpace, IsPathAndQuery}
+use Rattle.data_url.specs.{Steps.Header.{WithoutSpace, encoded_parts}, Fetch.{before_base64, before_semicolon}}
+use Rattle.data_url.specs.Fetch.{is_space, before_word, has_base64_suffix, stripped_header, before_comma}
+use Rattle.data_url.specs.{Steps.Parsing.{DoesNotEnd}, Url.{encoded_byte, encoded_path, in_path_set, in_query_set}}
+use Rattle.data_url.specs.Url.{is_tab_or_newline, is_c0_control_or_space, without_end, before, after}
+use Rattle.data_url.specs.Url.{without_tabs_and_newlines, percent_encoding, after_scheme, cleaned_text, serialised}
+use Rattle.data_url.specs.Url.{trimmed_text, with_query}
+use Rattle.data_url.proofs.{facts.Definitions.{base64_flag, serialised_with_spaces}, split.Cuts.{cut_at}}
+use Rattle.data_url.proofs.{header.Stages.{low_end, printable_take}, percent.Encoding.{encoded, encoded_cons}}
+use Rattle.data_url.proofs.{percent.Encoding.{encoded_nil, path_cons, path_nil}, texts.Bytes.{before_all, before_at}}
+use Rattle.data_url.proofs.texts.Bytes.{after-dropped_none, after_at, after_none, dropped_around, before_other}
+use Rattle.data_url.proofs.texts.Bytes.{after_other, is_cut, dropped_keeps, dropped_nil, dropped_passes, before-append}
+use Rattle.data_url.proofs.texts.Bytes.{after-append}
 
 -- the word of the suffix
 abbrev pub word : List ℕ

@@ -1,8 +1,30 @@
 -- The stages of the Standard, from the input to its record. For `DataUrl::process`.
-use Rattle.std.proofs.{Common.{Option, unwrap_or, get_or-drop, get_or-take, length-drop, take-append-drop, length-take, Some, refl, sym, ap, ◌∙◌, inl, inr, eqb-true, subst, arith, map, codes, ◌≢◌, is_some, drop_at, take_at, ◌≡◌, ℕ, suc, ◌<◌, ◌≤◌, Bool, false, List, [], ◌∷◌, ◌++◌, length, get_or, take, drop, None}, lemmas.Slice.Eq.{bytes_eq-Decides}, Math.Seq.{drop-append_seam}, lemmas.Bool.{cases_Bool}, lemmas.Str.{chars-IsAscii}, lemmas.List.Elements.{All-drop, All-from_get_or, All-from_recursion, All-take, recursion_from_All}, lemmas.List.{get_or-reverse, get_or_past, length-reverse, length-map}}
-use Rattle.std.specs.{Option.{option_map}, Char.{to_ascii_lowercase}, List.{prefix_len, suffix_len, AllByRecursion}, Str.{chars}}
-use Rattle.data_url.specs.{DataUrl.{IsAcceptable, IsUrlOf, is_base64, mime_of, url_tail}, declared.DataUrl.{DataUrl}, Fetch.{NoScheme, outcome, plain_body, staged, before_base64, has_base64_suffix, media_of, mime_text, with_plain, Accepted, NoComma, is_space, stripped_header, encoded_body, header_of, staged_front, tail_of}, Mime.{HasNoRecord, Record, default_record, BeginsParameters, IsHead, IsRecordOfParts}, MimeType.{record_of}, Steps.Split.{HasNoScheme, IsHeaderAndTail, IsSchemeAndRest}, Percent.{percent_decoding}, Steps.Header.{IsPrintable, header_text, IsHeaderOf, IsRecordFor}, Url.{before, after, is_c0_control_or_space, percent_encoding, trimmed_text, after_scheme, cleaned_text, without_tabs_and_newlines, fragment, front, serialised, in_fragment_set}}
-use Rattle.data_url.proofs.{examples.Literals.{on_literals}, runs.Runs.{none_or_some}, mime.FirstNames.{head_wellformed, parses_parts}, percent.Encoding.{serialised_recoded, IsBytes, encoded_cons, encoded_nil, header_nil, header_path, header_query, Recoded, before-serialised, recoded-decoded, recoded_tails}, texts.Bytes.{after-dropped_none, after_at, after_dropped, after_nil, after_other, before-append, before_nil, before_other, before_same, after-append, before_all, before_at, dropped_passes, is_cut, lacks, without_tabs_and_newlines-append, dropped_around, dropped_keeps, dropped_nil}}
+use Rattle.std.proofs.Common.{Option, unwrap_or, get_or-drop, get_or-take, length-drop, take-append-drop, length-take}
+use Rattle.std.proofs.Common.{Some, refl, sym, ap, ◌∙◌, inl, inr, eqb-true, subst, arith, map, codes, ◌≢◌, is_some}
+use Rattle.std.proofs.Common.{drop_at, take_at, ◌≡◌, ℕ, suc, ◌<◌, ◌≤◌, Bool, false, List, [], ◌∷◌, ◌++◌, length, get_or}
+use Rattle.std.proofs.{Common.{take, drop, None}, lemmas.Slice.Eq.{bytes_eq-Decides}, Math.Seq.{drop-append_seam}}
+use Rattle.std.proofs.lemmas.{Bool.{cases_Bool}, Str.{chars-IsAscii}, List.Elements.{All-drop, All-from_get_or}}
+use Rattle.std.proofs.lemmas.List.{get_or-reverse, Elements.{All-from_recursion, All-take, recursion_from_All}}
+use Rattle.std.proofs.lemmas.List.{get_or_past, length-reverse, length-map}
+use Rattle.std.specs.{Option.{option_map}, Char.{to_ascii_lowercase}, List.{prefix_len, suffix_len, AllByRecursion}}
+use Rattle.std.specs.Str.{chars}
+use Rattle.data_url.specs.{DataUrl.{IsAcceptable, IsUrlOf, is_base64, mime_of, url_tail}, declared.DataUrl.{DataUrl}}
+use Rattle.data_url.specs.Fetch.{NoScheme, outcome, plain_body, staged, before_base64, has_base64_suffix, media_of}
+use Rattle.data_url.specs.Fetch.{mime_text, with_plain, Accepted, NoComma, is_space, stripped_header, encoded_body}
+use Rattle.data_url.specs.{Fetch.{header_of, staged_front, tail_of}, Mime.{HasNoRecord, Record, default_record}}
+use Rattle.data_url.specs.{Mime.{BeginsParameters, IsHead, IsRecordOfParts}, MimeType.{record_of}}
+use Rattle.data_url.specs.{Steps.Split.{HasNoScheme, IsHeaderAndTail, IsSchemeAndRest}, Percent.{percent_decoding}}
+use Rattle.data_url.specs.{Steps.Header.{IsPrintable, header_text, IsHeaderOf, IsRecordFor}, Url.{before, after}}
+use Rattle.data_url.specs.Url.{is_c0_control_or_space, percent_encoding, trimmed_text, after_scheme, cleaned_text}
+use Rattle.data_url.specs.Url.{without_tabs_and_newlines, fragment, front, serialised, in_fragment_set}
+use Rattle.data_url.proofs.{examples.Literals.{on_literals}, runs.Runs.{none_or_some}}
+use Rattle.data_url.proofs.{mime.FirstNames.{head_wellformed, parses_parts}, percent.Encoding.{serialised_recoded}}
+use Rattle.data_url.proofs.percent.Encoding.{IsBytes, encoded_cons, encoded_nil, header_nil, header_path, header_query}
+use Rattle.data_url.proofs.percent.Encoding.{Recoded, before-serialised, recoded-decoded, recoded_tails}
+use Rattle.data_url.proofs.texts.Bytes.{after-dropped_none, after_at, after_dropped, after_nil, after_other}
+use Rattle.data_url.proofs.texts.Bytes.{before-append, before_nil, before_other, before_same, after-append, before_all}
+use Rattle.data_url.proofs.texts.Bytes.{before_at, dropped_passes, is_cut, lacks, without_tabs_and_newlines-append}
+use Rattle.data_url.proofs.texts.Bytes.{dropped_around, dropped_keeps, dropped_nil}
 
 -- a text of bytes, encoded with a set that has all bytes that are not printable, is printable
 encoded_printable : (p : ℕ → Bool) → ((b : ℕ) → p b ≡ false → (32 ≤ b) × (b < 127)) → (s : List ℕ) → IsBytes s

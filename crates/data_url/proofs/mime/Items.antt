@@ -1,8 +1,17 @@
 -- A text has one list of items, and at most one record.
-use Rattle.std.proofs.{lemmas.Bool.{cases_Bool, not-false}, Common.{inl, inr, Some, length, refl, sym, ap, ◌∙◌, append_assoc, append-nil, arith, drop, take, one-add, ◌+◌, length-append, eqb-true, take-append-drop, ◌≡◌, ℕ, zero, suc, ◌≤◌, ◌==◌, Bool, false, cond, List, [], ◌∷◌, ◌++◌, Option, true, None}}
+use Rattle.std.proofs.{lemmas.Bool.{cases_Bool, not-false}, Common.{inl, inr, Some, length, refl, sym, ap, ◌∙◌}}
+use Rattle.std.proofs.Common.{append_assoc, append-nil, arith, drop, take, one-add, ◌+◌, length-append, eqb-true}
+use Rattle.std.proofs.Common.{take-append-drop, ◌≡◌, ℕ, zero, suc, ◌≤◌, ◌==◌, Bool, false, cond, List, [], ◌∷◌, ◌++◌}
+use Rattle.std.proofs.Common.{Option, true, None}
 use Rattle.std.specs.List.{prefix_len}
-use Rattle.data_url.specs.{CodePoints.{is_http_whitespace, is_token}, Mime.{BeginsParameters, DoesNotBegin, Every, GivesValue, IsParameter, Item, Items, is_quote, lone_equals, nothing, plain, quoted, unclosed, unless_empty, IsHead}, Steps.Parsing.{Reading, after_mark, front_of, given_reading, in_name, in_value, item_in, named, plain_reading, quoted_reading, reading, reading_in}, Url.{without_end, without_start}}
-use Rattle.data_url.proofs.{facts.Definitions.{HasOneItemList, HasAtMostOneRecord}, mime.TokenTexts.{IsRead, closed_reading, is_closed, is_open, is_read, open_reading, every_token}, texts.CodePoints.{after_begins, front_is, front_passes}}
+use Rattle.data_url.specs.{CodePoints.{is_http_whitespace, is_token}, Mime.{BeginsParameters, DoesNotBegin, Every}}
+use Rattle.data_url.specs.Mime.{GivesValue, IsParameter, Item, Items, is_quote, lone_equals, nothing, plain, quoted}
+use Rattle.data_url.specs.{Mime.{unclosed, unless_empty, IsHead}, Steps.Parsing.{Reading, after_mark, front_of}}
+use Rattle.data_url.specs.Steps.Parsing.{given_reading, in_name, in_value, item_in, named, plain_reading}
+use Rattle.data_url.specs.{Steps.Parsing.{quoted_reading, reading, reading_in}, Url.{without_end, without_start}}
+use Rattle.data_url.proofs.{facts.Definitions.{HasOneItemList, HasAtMostOneRecord}, mime.TokenTexts.{IsRead}}
+use Rattle.data_url.proofs.mime.TokenTexts.{closed_reading, is_closed, is_open, is_read, open_reading, every_token}
+use Rattle.data_url.proofs.texts.CodePoints.{after_begins, front_is, front_passes}
 
 -- if ';' does not pass, a text that is empty or begins with ';' does not begin with a code point that passes
 pub ends_of_rest : (p : ℕ → Bool) → p 59 ≡ false → (rest : List ℕ) → BeginsParameters rest → DoesNotBegin p rest

@@ -1,8 +1,21 @@
 -- What the parser cuts: values of parameters, type, subtype and parameters. For `parse.rt`, `values.rt`, `cuts.rt`.
-use Rattle.std.proofs.{Common.{length, take, drop, encode_utf8_all, refl, sym, ap, ◌∙◌, arith, take-append-drop, length-take-le, codes, subst, take-take, length-take, ◌≡◌, ℕ, zero, suc, ◌+◌, ◌-◌, ◌<◌, ◌==◌, Bool, true, false, not, List, [], ◌∷◌, ◌++◌, ◌≤◌, ◌||◌, ◌⊎◌, None, Some, cond, nat_le, encode_utf8, map, Option, eqb-true}, Math.Seq.{take-length}, lemmas.List.{take_rest}, lemmas.Bool.{agree_below_at, false≢true}, lemmas.List.Folds.{list_all-append}, lemmas.List.Sums.{prefix_len-le-length, prefix_len_passes, suffix_len-le-length}, lemmas.Str.{chars_past_char, encodes-chars}}
-use Rattle.std.specs.{Str.Pattern.{HasCharAt}, Char.{to_ascii_lowercase}, List.{list_all, prefix_len}, Str.{IsUtf8, chars}}
-use Rattle.data_url.specs.{CodePoints.{is_http_whitespace, is_quotable, is_token}, Url.{without_end, without_start}, Mime.{Every, unless_empty, BeginsParameters, IsHead, is_token_text, valid_of}, Steps.Parsing.{DoesNotEnd, front_of, in_value, is_escaped, is_quotable_byte, is_unquoted_byte, item_in, named, pair_if, reading, reading_in, IsTrimmedEnd, quotable_value, unescaped, HasNoHead, IsTokens, after_mark, in_name}}
-use Rattle.data_url.proofs.{examples.Literals.{on_literals}, texts.CodePoints.{same_empty, trimmed_end_is, IsCutInto, IsSteady, cut_front, front_further, front_passes}, mime.Items.{has_parts, trimmed_of}, runs.Runs.{match_map}, mime.TokenTexts.{values_steady, whole_front, spaces_end, spaces_steady, tokens}}
+use Rattle.std.proofs.Common.{length, take, drop, encode_utf8_all, refl, sym, ap, ◌∙◌, arith, take-append-drop}
+use Rattle.std.proofs.Common.{length-take-le, codes, subst, take-take, length-take, ◌≡◌, ℕ, zero, suc, ◌+◌, ◌-◌, ◌<◌}
+use Rattle.std.proofs.Common.{◌==◌, Bool, true, false, not, List, [], ◌∷◌, ◌++◌, ◌≤◌, ◌||◌, ◌⊎◌, None, Some, cond}
+use Rattle.std.proofs.{Common.{nat_le, encode_utf8, map, Option, eqb-true}, Math.Seq.{take-length}}
+use Rattle.std.proofs.lemmas.{List.{take_rest, Folds.{list_all-append}}, Bool.{agree_below_at, false≢true}}
+use Rattle.std.proofs.lemmas.List.Sums.{prefix_len-le-length, prefix_len_passes, suffix_len-le-length}
+use Rattle.std.proofs.lemmas.Str.{chars_past_char, encodes-chars}
+use Rattle.std.specs.{Str.{IsUtf8, chars, Pattern.{HasCharAt}}, Char.{to_ascii_lowercase}, List.{list_all, prefix_len}}
+use Rattle.data_url.specs.{CodePoints.{is_http_whitespace, is_quotable, is_token}, Url.{without_end, without_start}}
+use Rattle.data_url.specs.Mime.{Every, unless_empty, BeginsParameters, IsHead, is_token_text, valid_of}
+use Rattle.data_url.specs.Steps.Parsing.{DoesNotEnd, front_of, in_value, is_escaped, is_quotable_byte, is_unquoted_byte}
+use Rattle.data_url.specs.Steps.Parsing.{item_in, named, pair_if, reading, reading_in, IsTrimmedEnd, quotable_value}
+use Rattle.data_url.specs.Steps.Parsing.{unescaped, HasNoHead, IsTokens, after_mark, in_name}
+use Rattle.data_url.proofs.{examples.Literals.{on_literals}, texts.CodePoints.{same_empty, trimmed_end_is, IsCutInto}}
+use Rattle.data_url.proofs.{texts.CodePoints.{IsSteady, cut_front, front_further, front_passes}, mime.Items.{has_parts}}
+use Rattle.data_url.proofs.{mime.{Items.{trimmed_of}, TokenTexts.{values_steady, whole_front}}, runs.Runs.{match_map}}
+use Rattle.data_url.proofs.mime.TokenTexts.{spaces_end, spaces_steady, tokens}
 use lib.Utf8.{encode}
 
 -- a byte of the UTF-8 of quoted-string code points is below 196

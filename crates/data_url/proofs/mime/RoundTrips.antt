@@ -1,8 +1,27 @@
 -- Printed records: `Display` and `PartialEq` of `Mime`, and that parsing a printed record returns the record.
-use Rattle.std.proofs.{lemmas.Grind.{common_steps}, Common.{Decides, IsTrue, String, string_bytes, map, encode_utf8, encode_utf8_all, refl, sym, subst, append_assoc, append-nil, drop-cons, drop_of_length-le, arith, ◌==◌, ◌||◌, ◌&&◌, not, Some, ap, ◌↔◌, ◌≡◌, ℕ, ◌+◌, ◌<◌, ◌≤◌, Bool, true, false, List, [], ◌∷◌, ◌++◌, length, get_or, drop}, Output.{has_written_styled_append, has_written_styled_nil, has_written_styled_of_eq}, lemmas.Bool.{and_from, and_parts, agree_below, agree_below_at, cond-true, cond_both, eqb-false, or_parts, false≢true}, lemmas.Slice.Eq.{bytes_eq-Decides}, lemmas.Simd.{map-map}, lemmas.Str.{encodes-chars, IsUtf8-append, IsUtf8-string_bytes, chars_past_char, encode_ascii, encodes-append}}
-use Rattle.std.specs.{List.{flat_map, AllZip, list_all, prefix_len}, Str.{IsUtf8, chars}, Fmt.{HasWrittenStyled, IsFlush}, Cmp.Lexicographic.{pointwise}, declared.fmt.Formatter.{Formatter}}
-use Rattle.data_url.specs.{CodePoints.{ends_name, is_http_whitespace, is_quotable, is_semicolon, is_token}, Mime.{BeginsParameters, DoesNotBegin, Every, GivesValue, IsHead, IsParameter, IsWellformed, Item, Items, Parses, Quoted, Record, first_of_each_name, Without, escaped_code_point, is_token_text, printed, printed_pair, printed_value, Pair, has_distinct_names, has_name, is_lowercase_name, is_quote, kept_pairs, plain, quoted, unless_empty, valid_pairs, after_backslash, nothing_quoted, as_itself}, Steps.Parsing.{DoesNotEnd, HasLowercaseNames, is_escaped}, MimeType.{code_points, pair_of, record_of, SameTexts, same_pair, same_texts, texts_of_pair}, Steps.Printing.{Adds, IsHeld, held}, declared.mime.Mime.{Mime}, declared.mime.line.Line.{Line}}
-use Rattle.data_url.proofs.{mime.FirstNames.{lower_is_itself, test_from_different}, mime.Items.{not_begins_append, has_at_most_one_record}, mime.Parsing.{ends_after, unescaped_steady, whole_passes}, mime.TokenTexts.{every_token, token_below}, texts.CodePoints.{no_chars, end_stays, not_ends_every, front_is}}
+use Rattle.std.proofs.{lemmas.Grind.{common_steps}, Common.{Decides, IsTrue, String, string_bytes, map, encode_utf8}}
+use Rattle.std.proofs.Common.{encode_utf8_all, refl, sym, subst, append_assoc, append-nil, drop-cons, drop_of_length-le}
+use Rattle.std.proofs.Common.{arith, ◌==◌, ◌||◌, ◌&&◌, not, Some, ap, ◌↔◌, ◌≡◌, ℕ, ◌+◌, ◌<◌, ◌≤◌, Bool, true, false}
+use Rattle.std.proofs.{Common.{List, [], ◌∷◌, ◌++◌, length, get_or, drop}, Output.{has_written_styled_append}}
+use Rattle.std.proofs.{Output.{has_written_styled_nil, has_written_styled_of_eq}, lemmas.Bool.{and_from, and_parts}}
+use Rattle.std.proofs.lemmas.Bool.{agree_below, agree_below_at, cond-true, cond_both, eqb-false, or_parts, false≢true}
+use Rattle.std.proofs.lemmas.{Slice.Eq.{bytes_eq-Decides}, Simd.{map-map}, Str.{encodes-chars, IsUtf8-append}}
+use Rattle.std.proofs.lemmas.Str.{IsUtf8-string_bytes, chars_past_char, encode_ascii, encodes-append}
+use Rattle.std.specs.{List.{flat_map, AllZip, list_all, prefix_len}, Str.{IsUtf8, chars}, Fmt.{HasWrittenStyled}}
+use Rattle.std.specs.{Fmt.{IsFlush}, Cmp.Lexicographic.{pointwise}, declared.fmt.Formatter.{Formatter}}
+use Rattle.data_url.specs.CodePoints.{ends_name, is_http_whitespace, is_quotable, is_semicolon, is_token}
+use Rattle.data_url.specs.Mime.{BeginsParameters, DoesNotBegin, Every, GivesValue, IsHead, IsParameter, IsWellformed}
+use Rattle.data_url.specs.Mime.{Item, Items, Parses, Quoted, Record, first_of_each_name, Without, escaped_code_point}
+use Rattle.data_url.specs.Mime.{is_token_text, printed, printed_pair, printed_value, Pair, has_distinct_names, has_name}
+use Rattle.data_url.specs.Mime.{is_lowercase_name, is_quote, kept_pairs, plain, quoted, unless_empty, valid_pairs}
+use Rattle.data_url.specs.{Mime.{after_backslash, nothing_quoted, as_itself}, Steps.Parsing.{DoesNotEnd}}
+use Rattle.data_url.specs.{Steps.Parsing.{HasLowercaseNames, is_escaped}, MimeType.{code_points, pair_of, record_of}}
+use Rattle.data_url.specs.{MimeType.{SameTexts, same_pair, same_texts, texts_of_pair}, Steps.Printing.{Adds, IsHeld}}
+use Rattle.data_url.specs.{Steps.Printing.{held}, declared.mime.{Mime.{Mime}, line.Line.{Line}}}
+use Rattle.data_url.proofs.mime.{FirstNames.{lower_is_itself, test_from_different}, Items.{not_begins_append}}
+use Rattle.data_url.proofs.mime.{Items.{has_at_most_one_record}, Parsing.{ends_after, unescaped_steady, whole_passes}}
+use Rattle.data_url.proofs.{mime.TokenTexts.{every_token, token_below}, texts.CodePoints.{no_chars, end_stays}}
+use Rattle.data_url.proofs.texts.CodePoints.{not_ends_every, front_is}
 
 -- moving the first code point of r, escaped, to the bytes so far preserves that these and the escaped r are the whole
 pub escaped_more : (r r' done whole : List ℕ) (c : ℕ) → IsUtf8 r → r ≡ encode_utf8 c ++ r' → done

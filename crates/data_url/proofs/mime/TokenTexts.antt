@@ -1,8 +1,24 @@
 -- Texts of token code points, and quoted strings and their values. For `cuts.rt`, `values.rt` and `split_quote`.
-use Rattle.std.proofs.{lemmas.Grind.{common_steps}, Common.{append_assoc, append-nil, eqb-true, inl, inr, zero, suc, get_or, encode_utf8_all, drop-drop, ◌⊎◌, ◌≢◌, refl, sym, ap, subst, Bool, ◌∙◌, arith, take, drop, length-take-le, ◌+◌, cond, ◌++◌, take-append-drop, drop-cons, add-one, drop_of_length-le, Some, nat_le, length-append, ◌-◌, ◌≡◌, ℕ, ◌<◌, ◌≤◌, ◌==◌, ◌&&◌, nat_lt, codes, true, false, not, List, [], ◌∷◌, length, length-drop, one-add, take_all, slice_index, min, take-add, take-take}, lemmas.List.{take_rest, get_or-drop}, lemmas.Bool.{and_parts, and_from, cases_lt, eqb-false, not-false}, Math.Seq.{take-append_seam, take-length, drop-append-add, take-append-add}, lemmas.List.Sums.{prefix_len-le-length, prefix_len_passes, prefix_len_stops}, lemmas.Str.{chars-IsAscii, encodes-IsAscii, encodes-chars, chars-nil, chars_past_char, encode_ascii, IsUtf8-drop, IsCharBoundary-before_ascii, IsCharBoundary-after_ascii, chars-encodes, scalars-chars}}
+use Rattle.std.proofs.{lemmas.Grind.{common_steps}, Common.{append_assoc, append-nil, eqb-true, inl, inr, zero, suc}}
+use Rattle.std.proofs.Common.{get_or, encode_utf8_all, drop-drop, ◌⊎◌, ◌≢◌, refl, sym, ap, subst, Bool, ◌∙◌, arith}
+use Rattle.std.proofs.Common.{take, drop, length-take-le, ◌+◌, cond, ◌++◌, take-append-drop, drop-cons, add-one}
+use Rattle.std.proofs.Common.{drop_of_length-le, Some, nat_le, length-append, ◌-◌, ◌≡◌, ℕ, ◌<◌, ◌≤◌, ◌==◌, ◌&&◌, nat_lt}
+use Rattle.std.proofs.Common.{codes, true, false, not, List, [], ◌∷◌, length, length-drop, one-add, take_all}
+use Rattle.std.proofs.{Common.{slice_index, min, take-add, take-take}, lemmas.List.{take_rest, get_or-drop}}
+use Rattle.std.proofs.{lemmas.Bool.{and_parts, and_from, cases_lt, eqb-false, not-false}, Math.Seq.{take-append_seam}}
+use Rattle.std.proofs.Math.Seq.{take-length, drop-append-add, take-append-add}
+use Rattle.std.proofs.lemmas.List.Sums.{prefix_len-le-length, prefix_len_passes, prefix_len_stops}
+use Rattle.std.proofs.lemmas.Str.{chars-IsAscii, encodes-IsAscii, encodes-chars, chars-nil, chars_past_char}
+use Rattle.std.proofs.lemmas.Str.{encode_ascii, IsUtf8-drop, IsCharBoundary-before_ascii, IsCharBoundary-after_ascii}
+use Rattle.std.proofs.lemmas.Str.{chars-encodes, scalars-chars}
 use Rattle.std.specs.{Str.{IsAscii, IsUtf8, chars}, List.{list_all, list_any, prefix_len, suffix_len}}
-use Rattle.data_url.specs.{CodePoints.{is_http_whitespace, is_token}, Url.{without_start}, Mime.{Every, is_token_text, Quoted, QuotedOpen, after_backslash, nothing_quoted, as_itself}, Steps.Parsing.{IsTokens, front_of, in_name, in_value, quoted_len, quoted_reading, unescaped, Quoting, is_escaped}, Steps.Classes.{AreOf, is_marked}, declared.classes.TheConstants.{ESCAPED}}
-use Rattle.data_url.proofs.{texts.CodePoints.{IsCutInto, IsEnd, IsSteady, cut_end, cut_front, every_ascii, front_passes, cut_into, front_further}, classes.Rows.{Looked, unmarked_passes}}
+use Rattle.data_url.specs.{CodePoints.{is_http_whitespace, is_token}, Url.{without_start}, Mime.{Every, is_token_text}}
+use Rattle.data_url.specs.Mime.{Quoted, QuotedOpen, after_backslash, nothing_quoted, as_itself}
+use Rattle.data_url.specs.Steps.Parsing.{IsTokens, front_of, in_name, in_value, quoted_len, quoted_reading, unescaped}
+use Rattle.data_url.specs.Steps.{Parsing.{Quoting, is_escaped}, Classes.{AreOf, is_marked}}
+use Rattle.data_url.specs.declared.classes.TheConstants.{ESCAPED}
+use Rattle.data_url.proofs.texts.CodePoints.{IsCutInto, IsEnd, IsSteady, cut_end, cut_front, every_ascii, front_passes}
+use Rattle.data_url.proofs.{texts.CodePoints.{cut_into, front_further}, classes.Rows.{Looked, unmarked_passes}}
 use lib.Utf8.{encode, scalars}
 
 -- a code point that is not ASCII is none of some ASCII marks

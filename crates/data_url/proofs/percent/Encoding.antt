@@ -1,8 +1,21 @@
 -- Percent-encoding with the rows of a table, and decoding of encoded texts. For `push_encoded`.
-use Rattle.std.proofs.{lemmas.Grind.{common_steps, flat_map-append}, Common.{append_assoc, ◌≡◌, ℕ, ◌*◌, ◌+◌, ◌-◌, ◌<◌, ◌&&◌, ◌||◌, Bool, false, true, List, [], ◌∷◌, length, take, drop, refl, ◌/◌, ◌%◌, ◌++◌, Option, None, Some, sym, ap, ◌∙◌, inl, inr, length-take-le, take-take, subst, append-nil, arith, suc, ◌≤◌, get_or, ◌==◌, slice_index, nat_lt, take_all}, lemmas.Slice.Eq.{bytes_eq-Decides}, Math.Seq.{take-append-add}, lemmas.Bool.{agree_below, agree_below_at, and_parts, eqb-true, and_left, cases_Bool, cond_both, both_ways, ne_eqb, ltb-true}, lemmas.Str.Ascii.{IsAscii-nil}, lemmas.List.{nil_from_length, take_more}, lemmas.Str.{IsAscii-append, IsUtf8-from_ascii}, lemmas.Slice.{take-put_mid}}
-use Rattle.std.specs.{Char.{digit_value, is_ascii_hexdigit}, List.{AllByRecursion, list_all}, Str.{bytes_eq, IsAscii, IsUtf8}}
-use Rattle.data_url.specs.{Percent.{percent_decoding}, Steps.Header.{header_parts, header_text}, Steps.Sets.{IsEntry, byte_encoding, in_set}, Url.{in_path_end_set, percent_encoding, serialised, with_query, without_tabs_and_newlines, in_path_set, in_query_set, before, after, encoded_byte, encoded_path, hex_digit}, declared.percent.EncodeSet.{EncodeSet}}
-use Rattle.data_url.proofs.{classes.Rows.{unmarked_passes}, texts.Bytes.{after_nil, after_other, after_same, lacks, dropped_keeps, dropped_nil, dropped_passes, without_tabs_and_newlines-append, first_byte, before-append, before_at, before_nil, before_other, before_same}}
+use Rattle.std.proofs.{lemmas.Grind.{common_steps, flat_map-append}, Common.{append_assoc, ◌≡◌, ℕ, ◌*◌, ◌+◌, ◌-◌, ◌<◌}}
+use Rattle.std.proofs.Common.{◌&&◌, ◌||◌, Bool, false, true, List, [], ◌∷◌, length, take, drop, refl, ◌/◌, ◌%◌, ◌++◌}
+use Rattle.std.proofs.Common.{Option, None, Some, sym, ap, ◌∙◌, inl, inr, length-take-le, take-take, subst, append-nil}
+use Rattle.std.proofs.Common.{arith, suc, ◌≤◌, get_or, ◌==◌, slice_index, nat_lt, take_all}
+use Rattle.std.proofs.{lemmas.{Slice.Eq.{bytes_eq-Decides}, Bool.{agree_below}}, Math.Seq.{take-append-add}}
+use Rattle.std.proofs.lemmas.Bool.{agree_below_at, and_parts, eqb-true, and_left, cases_Bool, cond_both, both_ways}
+use Rattle.std.proofs.lemmas.{Bool.{ne_eqb, ltb-true}, Str.Ascii.{IsAscii-nil}, List.{nil_from_length, take_more}}
+use Rattle.std.proofs.lemmas.{Str.{IsAscii-append, IsUtf8-from_ascii}, Slice.{take-put_mid}}
+use Rattle.std.specs.{Char.{digit_value, is_ascii_hexdigit}, List.{AllByRecursion, list_all}, Str.{bytes_eq, IsAscii}}
+use Rattle.std.specs.Str.{IsUtf8}
+use Rattle.data_url.specs.{Percent.{percent_decoding}, Steps.{Header.{header_parts, header_text}, Sets.{IsEntry}}}
+use Rattle.data_url.specs.{Steps.Sets.{byte_encoding, in_set}, Url.{in_path_end_set, percent_encoding, serialised}}
+use Rattle.data_url.specs.Url.{with_query, without_tabs_and_newlines, in_path_set, in_query_set, before, after}
+use Rattle.data_url.specs.{Url.{encoded_byte, encoded_path, hex_digit}, declared.percent.EncodeSet.{EncodeSet}}
+use Rattle.data_url.proofs.{classes.Rows.{unmarked_passes}, texts.Bytes.{after_nil, after_other, after_same, lacks}}
+use Rattle.data_url.proofs.texts.Bytes.{dropped_keeps, dropped_nil, dropped_passes, without_tabs_and_newlines-append}
+use Rattle.data_url.proofs.texts.Bytes.{first_byte, before-append, before_at, before_nil, before_other, before_same}
 use borrow.Rule.Slice.PartMut.{mid_of, put_mid, same_len_mid}
 
 -- the row of a byte in a table

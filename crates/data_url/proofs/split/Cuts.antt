@@ -1,8 +1,20 @@
 -- The scheme, and the first comma of a text. For `after_scheme` and `split_at_comma`.
-use Rattle.std.proofs.{lemmas.Grind.{common_steps}, Common.{None, ◌⊎◌, eqb-true, append-nil, [], get_or-take, length-take, codes, refl, ap, ◌∙◌, arith, ◌-◌, ◌≡◌, ◌≢◌, ℕ, ◌+◌, ◌<◌, true, false, List, ◌∷◌, ◌++◌, length, get_or, take, drop, take-append-drop, take_all, map, nat_eq, length-append}, lemmas.Bool.{or_parts}, lemmas.List.Sums.{prefix_len_passes, prefix_len-le-length, prefix_len_stops}, lemmas.List.{get_or_at, take_more, length-map, map-append, take-append-le, take-map, drop_more, take_rest}, lemmas.Slice.Eq.{bytes_eq-Decides, starts_is}, lemmas.Str.{IsCharBoundary-after_ascii, IsCharBoundary-from_take, IsUtf8-from_ascii}}
+use Rattle.std.proofs.{lemmas.Grind.{common_steps}, Common.{None, ◌⊎◌, eqb-true, append-nil, [], get_or-take}}
+use Rattle.std.proofs.Common.{length-take, codes, refl, ap, ◌∙◌, arith, ◌-◌, ◌≡◌, ◌≢◌, ℕ, ◌+◌, ◌<◌, true, false, List}
+use Rattle.std.proofs.Common.{◌∷◌, ◌++◌, length, get_or, take, drop, take-append-drop, take_all, map, nat_eq}
+use Rattle.std.proofs.{Common.{length-append}, lemmas.{Bool.{or_parts}, List.Sums.{prefix_len_passes}}}
+use Rattle.std.proofs.lemmas.List.{get_or_at, take_more, length-map, Sums.{prefix_len-le-length, prefix_len_stops}}
+use Rattle.std.proofs.lemmas.List.{map-append, take-append-le, take-map, drop_more, take_rest}
+use Rattle.std.proofs.lemmas.{Slice.Eq.{bytes_eq-Decides, starts_is}, Str.{IsCharBoundary-after_ascii}}
+use Rattle.std.proofs.lemmas.Str.{IsCharBoundary-from_take, IsUtf8-from_ascii}
 use Rattle.std.specs.{Char.{to_ascii_lowercase}, Str.{IsCharBoundary, IsUtf8}, List.{starts_with, prefix_len}}
-use Rattle.data_url.specs.{Mime.{Every}, Steps.Split.{HasNoScheme, IsSchemeAndRest, IsHeaderAndTail, in_header, is_plain_path}, Steps.Header.{header_text}, Url.{without_tabs_and_newlines, is_tab_or_newline, after, front}}
-use Rattle.data_url.proofs.{percent.Encoding.{kept_whole, ascii_all, Plain}, texts.Bytes.{before_at, after_none, after_nil, after_other, after-dropped_none, without_tabs_and_newlines-append, dropped_around, dropped_keeps, dropped_nil, dropped_passes, before_all}, texts.CodePoints.{front_further, front_passes}}
+use Rattle.data_url.specs.{Mime.{Every}, Steps.Split.{HasNoScheme, IsSchemeAndRest, IsHeaderAndTail, in_header}}
+use Rattle.data_url.specs.{Steps.{Split.{is_plain_path}, Header.{header_text}}, Url.{without_tabs_and_newlines}}
+use Rattle.data_url.specs.Url.{is_tab_or_newline, after, front}
+use Rattle.data_url.proofs.{percent.Encoding.{kept_whole, ascii_all, Plain}, texts.Bytes.{before_at, after_none}}
+use Rattle.data_url.proofs.texts.Bytes.{after_nil, after_other, after-dropped_none, without_tabs_and_newlines-append}
+use Rattle.data_url.proofs.texts.Bytes.{dropped_around, dropped_keeps, dropped_nil, dropped_passes, before_all}
+use Rattle.data_url.proofs.texts.CodePoints.{front_further, front_passes}
 
 -- the scheme, in lower case
 abbrev scheme : List ℕ

@@ -1,7 +1,14 @@
 -- Texts of code points, cut at the first code point that does not pass, and where their bytes can be cut.
-use Rattle.std.proofs.{lemmas.Grind.{common_steps}, Common.{append-nil, ◌==◌, take-append-drop, length-append, drop, refl, one-add, subst, sym, ap, ◌∙◌, arith, zero, suc, get_or, encode_utf8_all, ◌≡◌, ℕ, ◌≤◌, ◌<◌, ◌+◌, ◌-◌, Bool, true, false, cond, List, [], ◌∷◌, ◌++◌, length, take}, Math.Seq.{take-append_seam, drop-append_seam}, lemmas.List.Sums.{suffix_len-le-length}, lemmas.Str.Ascii.{IsAscii-nil}, lemmas.Str.{IsUtf8-take, chars-append, chars-encodes, encodes-append, encodes-chars, IsCharBoundary-at_seam, encode_ascii, chars-nil, length-le-encodes, chars-IsAscii, IsUtf8-from_ascii}}
+use Rattle.std.proofs.{lemmas.Grind.{common_steps}, Common.{append-nil, ◌==◌, take-append-drop, length-append, drop}}
+use Rattle.std.proofs.Common.{refl, one-add, subst, sym, ap, ◌∙◌, arith, zero, suc, get_or, encode_utf8_all, ◌≡◌, ℕ}
+use Rattle.std.proofs.Common.{◌≤◌, ◌<◌, ◌+◌, ◌-◌, Bool, true, false, cond, List, [], ◌∷◌, ◌++◌, length, take}
+use Rattle.std.proofs.{Math.Seq.{take-append_seam, drop-append_seam}, lemmas.List.Sums.{suffix_len-le-length}}
+use Rattle.std.proofs.lemmas.Str.{IsUtf8-take, chars-append, chars-encodes, encodes-append, Ascii.{IsAscii-nil}}
+use Rattle.std.proofs.lemmas.Str.{encodes-chars, IsCharBoundary-at_seam, encode_ascii, chars-nil, length-le-encodes}
+use Rattle.std.proofs.lemmas.Str.{chars-IsAscii, IsUtf8-from_ascii}
 use Rattle.std.specs.{List.{prefix_len, suffix_len}, Str.{chars, IsCharBoundary, IsUtf8, all_scalars, IsAscii}}
-use Rattle.data_url.specs.{Mime.{DoesNotBegin, Every}, Steps.Parsing.{IsTrimmedEnd, front_of, DoesNotEnd}, Url.{is_c0_control_or_space, without_end, without_start}}
+use Rattle.data_url.specs.{Mime.{DoesNotBegin, Every}, Steps.Parsing.{IsTrimmedEnd, front_of, DoesNotEnd}}
+use Rattle.data_url.specs.Url.{is_c0_control_or_space, without_end, without_start}
 use lib.Utf8.{encode}
 use mathlib.Core.List.{reverse_aux}
 

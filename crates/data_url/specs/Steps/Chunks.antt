@@ -61,8 +61,8 @@ pub record TakesOn {F E : Type 0} (step : F → List ℕ → Result (Unit {0}) E
   pub short : w'.place + length w'.rest ≤ length w'.text
   pub body : w.rest ≡ joined_pieces run ++ w'.rest
 
--- the closure f was called with the body from where the walk w is, at most once for each byte of the text from there on,
--- and is g after that; the result is the place where the body ends, or the error that ended the calls
+-- the closure f was called with the body from where the walk w is, at most once for each byte of the text from there
+-- on, and is g after that; the result is the place where the body ends, or the error that ended the calls
 pub record TakesRest {F E : Type 0} (step : F → List ℕ → Result (Unit {0}) E → F → Type 0) (f : F) (w : Walk)
     (r : Result ℕ E) (g : F) : Type 0 where
   pub run : List (Call F E)

@@ -5,7 +5,9 @@ use Rattle.data_url.specs.Url.{is_c0_control_or_space, is_tab_or_newline}
 use Rattle.data_url.specs.Steps.Header.{is_no_question_mark}
 use Rattle.data_url.specs.Steps.Split.{in_header, is_plain_path}
 use Rattle.data_url.specs.Steps.Parsing.{in_name, in_value, is_escaped, is_quotable_byte, is_unquoted_byte}
-use Rattle.data_url.specs.declared.classes.Class.TheVariants.{Control, Header, Name, Path, PlainPath, Quotable, TabOrNewline, Token, Unescaped, Unquoted, Value, Whitespace}
+use Rattle.data_url.specs.declared.classes.Class.TheVariants.{Control, Header, Name, Path, PlainPath, Quotable}
+use Rattle.data_url.specs.declared.classes.Class.TheVariants.{TabOrNewline, Token, Unescaped, Unquoted, Value}
+use Rattle.data_url.specs.declared.classes.Class.TheVariants.{Whitespace}
 use Rattle.data_url.specs.declared.classes.Class.{Class}
 use Rattle.data_url.specs.declared.classes.lanes.TheConstants.{COLUMNS}
 

@@ -1,6 +1,7 @@
 -- Hexadecimal digits and escapes in a text, and how many bytes are read to find them.
 use Rattle.std.specs.Char.{digit_value, is_ascii_hexdigit}
-use Rattle.std.specs.Prelude.{◌*◌, ◌+◌, ◌-◌, ◌<◌, ◌∷◌, ◌≡◌, ◌≤◌, List, None, Option, Some, drop, false, length, slice_index, true, ℕ}
+use Rattle.std.specs.Prelude.{◌*◌, ◌+◌, ◌-◌, ◌<◌, ◌∷◌, ◌≡◌, ◌≤◌, List, None, Option, Some, drop, false, length}
+use Rattle.std.specs.Prelude.{slice_index, true, ℕ}
 use Rattle.data_url.specs.Percent.{begins_with_escape}
 use Rattle.data_url.specs.Steps.Looks.{before_percent}
 use Rattle.data_url.specs.Url.{after, front, is_tab_or_newline, number_sign, percent_sign, without_tabs_and_newlines}

@@ -1,6 +1,7 @@
 -- The escapes of a block of text, and what its lanes compute.
 use Rattle.std.specs.{Char.{digit_value}, List.{prefix_len}}
-use Rattle.std.specs.Prelude.{[], if◌then◌else◌, ◌&&◌, ◌*◌, ◌++◌, ◌+◌, ◌==◌, ◌||◌, ◌∷◌, ◌≡◌, ◌≤◌, Bool, List, map, min, not, take, true, ℕ}
+use Rattle.std.specs.Prelude.{[], if◌then◌else◌, ◌&&◌, ◌*◌, ◌++◌, ◌+◌, ◌==◌, ◌||◌, ◌∷◌, ◌≡◌, ◌≤◌, Bool, List, map, min}
+use Rattle.std.specs.Prelude.{not, take, true, ℕ}
 use Rattle.std.specs.Simd.Lanes.{mask_l}
 use Rattle.data_url.specs.Percent.{begins_with_escape}
 use Rattle.data_url.specs.Steps.Groups.{clear}

@@ -1,8 +1,10 @@
 -- What the private functions that read a header do.
-use Rattle.std.specs.Prelude.{[], ◌++◌, ◌∷◌, ◌⊎◌, ◌<◌, ◌==◌, ◌≡◌, ◌≤◌, Bool, List, None, Option, Some, String, length, not, slice_index, string_bytes, ℕ}
+use Rattle.std.specs.Prelude.{[], ◌++◌, ◌∷◌, ◌⊎◌, ◌<◌, ◌==◌, ◌≡◌, ◌≤◌, Bool, List, None, Option, Some, String, length}
+use Rattle.std.specs.Prelude.{not, slice_index, string_bytes, ℕ}
 use Rattle.data_url.specs.Fetch.{has_base64_suffix, mime_text}
 use Rattle.data_url.specs.Mime.{IsRecordOf, IsWellformed, Record}
-use Rattle.data_url.specs.Url.{before, after, without_tabs_and_newlines, encoded_path, in_path_set, in_query_set, percent_encoding}
+use Rattle.data_url.specs.Url.{before, after, without_tabs_and_newlines, encoded_path, in_path_set, in_query_set}
+use Rattle.data_url.specs.Url.{percent_encoding}
 
 -- the byte is not '?', which ends a path
 abbrev pub is_no_question_mark : ℕ → Bool

@@ -1,5 +1,6 @@
 -- What a decoder does with input while decoded bytes are held, to be passed to the closure together.
-use Rattle.std.specs.Prelude.{[], ◌*◌, ◌++◌, ◌+◌, ◌/◌, ◌∷◌, ◌<◌, ◌≡◌, ◌≤◌, Err, List, MatchOption, MatchResult, None, Ok, Option, Result, false, is_err, is_some, length, slice_index, take, true, ℕ}
+use Rattle.std.specs.Prelude.{[], ◌*◌, ◌++◌, ◌+◌, ◌/◌, ◌∷◌, ◌<◌, ◌≡◌, ◌≤◌, Err, List, MatchOption, MatchResult, None}
+use Rattle.std.specs.Prelude.{Ok, Option, Result, false, is_err, is_some, length, slice_index, take, true, ℕ}
 use Rattle.std.specs.List.{list_all}
 use Rattle.data_url.specs.Base64.{Kind, complete_bytes, first_fault, kind_of}
 use Rattle.data_url.specs.Decoder.{Feeds, IsLeft, State, left_over}

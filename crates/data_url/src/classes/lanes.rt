@@ -1,23 +1,23 @@
 //! Rows of sixteen bytes: how they are read and written, and the classes of their bytes. Blocks of 64 bytes are tested alike.
 
 ghost use Rattle.std.specs.Prelude.{◌≡◌, ◌+◌, ◌-◌, ◌++◌, ◌≤◌, drop, length, map, not, replicate, take};
-ghost use Rattle.std.specs.List.{list_all};
-ghost use Rattle.std.specs.Simd.Lanes.{mask_l};
+ghost use Rattle.std.specs.{List.{list_all}, Simd.Lanes.{mask_l}};
 ghost use Rattle.data_url.specs.Steps.Classes.{AreOf, Repeats, is_marked, looked_up};
 
 use std::simd::prelude::*;
 
-/// How many bytes are tested together.
+/// How many bytes a row has.
 pub(crate) const ROW: usize = 16;
+
+/// How many bytes a block has.
+pub(crate) const BLOCK: usize = 64;
 
 /// Has, for each high half of a byte, the bit of its column, once for each sixteen lanes. Bytes from 0x10 to 0x1F and from 0x80 on
 /// share one bit.
-#[rattlefmt::skip]
 const COLUMNS: [u8; 64] = [
-    1, 128, 2, 4, 8, 16, 32, 64, 128, 128, 128, 128, 128, 128, 128, 128,
-    1, 128, 2, 4, 8, 16, 32, 64, 128, 128, 128, 128, 128, 128, 128, 128,
-    1, 128, 2, 4, 8, 16, 32, 64, 128, 128, 128, 128, 128, 128, 128, 128,
-    1, 128, 2, 4, 8, 16, 32, 64, 128, 128, 128, 128, 128, 128, 128, 128,
+    1, 128, 2, 4, 8, 16, 32, 64, 128, 128, 128, 128, 128, 128, 128, 128, 1, 128, 2, 4, 8, 16, 32,
+    64, 128, 128, 128, 128, 128, 128, 128, 128, 1, 128, 2, 4, 8, 16, 32, 64, 128, 128, 128, 128,
+    128, 128, 128, 128, 1, 128, 2, 4, 8, 16, 32, 64, 128, 128, 128, 128, 128, 128, 128, 128,
 ];
 
 /// The row of a text that begins at a place.
@@ -39,10 +39,9 @@ pub(crate) fn put(bytes: &mut [u8], at: usize, row: u8x16)
 }
 
 /// The places in a row, and then sixteen numbers that are places in no row.
-#[rattlefmt::skip]
 const PLACES: [u8; 32] = [
-    0, 1, 2, 3, 4, 5, 6, 7, 8, 9, 10, 11, 12, 13, 14, 15,
-    128, 128, 128, 128, 128, 128, 128, 128, 128, 128, 128, 128, 128, 128, 128, 128,
+    0, 1, 2, 3, 4, 5, 6, 7, 8, 9, 10, 11, 12, 13, 14, 15, 128, 128, 128, 128, 128, 128, 128, 128,
+    128, 128, 128, 128, 128, 128, 128, 128,
 ];
 
 /// Returns the last bytes of a text, and then a number of zeros: sixteen bytes together.

@@ -3,9 +3,8 @@
 #![tactic(auto, using(crate::proofs::escapes::Walking::walks))]
 
 ghost use Rattle.std.specs.Prelude.{◌≡◌, ◌≤◌, drop, length};
-ghost use Rattle.data_url.specs.Url.{after, number_sign};
-ghost use Rattle.data_url.specs.{Pieces.{text_of, walk_at_start, walk_of}, Steps.Chunks.{IsBodyFrom, IsBodyPrefix}};
-ghost use Rattle.data_url.specs.Steps.Walk.{GoesOn, Knows, KnowsAhead, Looking};
+ghost use Rattle.data_url.specs.{Url.{after, number_sign}, Pieces.{text_of, walk_at_start, walk_of}};
+ghost use Rattle.data_url.specs.Steps.{Chunks.{IsBodyFrom, IsBodyPrefix}, Walk.{GoesOn, Knows, KnowsAhead, Looking}};
 
 use super::Piece;
 use super::marks::{AtMark, Block};

@@ -8,9 +8,9 @@ ghost use Rattle.data_url.specs.Steps.Walk.{Gathered, Gathering, Gathers, HasRoo
 
 use super::Piece;
 use super::cursor::{Ahead, Cursor, ESCAPE};
-use super::lanes::BLOCK;
 use super::marks::AtMark;
 use super::pack::SEVERAL;
+use crate::classes::lanes::BLOCK;
 
 /// How many bytes the buffer holds in which short stretches and values of escapes are gathered.
 pub(crate) const BUFFER_LEN: usize = 512;
@@ -19,8 +19,7 @@ pub(crate) const BUFFER_LEN: usize = 512;
 pub(super) type Buffer = [u8; BUFFER_LEN];
 
 impl<'a> Cursor<'a> {
-    /// The next bytes: a long stretch of the text, or shorter ones and the values of escapes, gathered in a buffer.
-    /// Returns None at the end of the body.
+    /// The next bytes: a long stretch, or shorter ones and the values of escapes, gathered in a buffer. None at the end of the body.
     #[inline(always)]
     pub(super) fn next_bytes<'r>(&mut self, room: &'r mut Buffer) -> Option<&'r [u8]>
     where

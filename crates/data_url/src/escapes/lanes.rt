@@ -2,16 +2,11 @@
 
 #![tactic(auto, using(crate::proofs::escapes::BlockMarks::marks))]
 
-ghost use Rattle.std.specs.Prelude.{◌≡◌, ◌==◌, map};
-ghost use Rattle.std.specs.Simd.Lanes.{mask_l};
-ghost use Rattle.data_url.specs.Steps.Escapes.{escape_starts, place_values, stops};
-ghost use Rattle.data_url.specs.Steps.Window.{is_marked};
+ghost use Rattle.std.specs.{Prelude.{◌≡◌, ◌==◌, map}, Simd.Lanes.{mask_l}};
+ghost use Rattle.data_url.specs.Steps.{Escapes.{escape_starts, place_values, stops}, Window.{is_marked}};
 ghost use Rattle.data_url.specs.Url.{is_tab_or_newline, percent_sign};
 
 use std::simd::prelude::*;
-
-/// How many bytes are tested together.
-pub(super) const BLOCK: usize = 64;
 
 /// Has, for each low half of a byte, the marked byte with that half, or a byte with another half.
 const MARKED: [u8; 64] = [
@@ -20,8 +15,8 @@ const MARKED: [u8; 64] = [
     10, 0, 0, 13, 0, 0,
 ];
 
-/// The marks of 64 bytes: bit k is set where byte k is a tab, a newline, `#` or `%`. If they are `sparse`, one comparison
-/// first shows whether all bytes are greater than `%`, as symbols of base64 are. Then there are no marks.
+/// The marks of 64 bytes: bit k is set where byte k is one. If they are `sparse`, one comparison first shows whether all bytes are
+/// greater than `%`, as symbols of base64 are. Then there are no marks.
 #[inline(always)]
 pub(super) fn marks_of(bytes: u8x64, sparse: bool) -> u64
     ensures { result ≡ mask_l (map is_marked bytes) }

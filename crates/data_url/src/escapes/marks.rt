@@ -5,8 +5,9 @@
 ghost use Rattle.std.specs.Prelude.{IsTrue, ◌≡◌, ◌+◌, ◌^◌, ◌<◌, ◌≤◌, MatchOption, length, slice_index, true};
 ghost use Rattle.data_url.specs.Steps.{Walk.{IsAtMark, IsClear, IsNextMark, Looking, LooksOn}, Window.{is_marked}};
 
-use super::lanes::{BLOCK, marks_of};
+use super::lanes::marks_of;
 use super::source::{Source, last_marks};
+use crate::classes::lanes::BLOCK;
 
 /// The block of a text that was read last, from `base` up to `seen`, with a bit for each marked byte.
 #[derive(Drop)]
@@ -88,8 +89,7 @@ impl Block {
 }
 
 impl<'a> Source<'a> {
-    /// What begins at a marked byte, or that the text ends. If the byte is `followed` by two bytes or more, it is faster: whether
-    /// the text ends is not tested.
+    /// What begins at a marked byte, or that the text ends. That is not tested if the byte is `followed` by two bytes or more.
     #[inline(always)]
     pub(super) fn at_mark(&mut self, mark: usize, followed: bool) -> AtMark
         requires within { mark ≤ length self.old.text.now }

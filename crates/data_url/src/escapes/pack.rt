@@ -9,21 +9,20 @@ ghost use Rattle.data_url.specs.Steps.Walk.{IsWhole, Looking, LooksOn, MayGather
 
 use super::cursor::{Ahead, Cursor};
 use super::gather::Buffer;
-use super::lanes::{BLOCK, decode_escapes, marks_of, stops_of};
+use super::lanes::{decode_escapes, marks_of, stops_of};
 use super::marks::Block;
 use super::source::padded;
+use crate::classes::lanes::BLOCK;
 use crate::packing::pack_block;
 use std::simd::prelude::*;
 
 /// With this many marks or more in a block, it is faster to decode its escapes in lanes than one by one.
 pub(super) const SEVERAL: u32 = 4;
 
-/// With fewer bytes before the first stop of a block, or before the end of the text, escapes are decoded one by one. Four
-/// escapes have twelve bytes.
+/// With fewer bytes before the first stop of a block, or the end of the text, escapes are decoded one by one: four have twelve.
 const FEW: usize = 12;
 
-/// If at most this many bytes are left after what is packed of a block, they are read again with the next block, since an escape that
-/// goes past the end of the block may begin there.
+/// A rest of at most this many bytes of a block is read again with the next block: an escape may begin there that goes on.
 const SHORT_REST: usize = 2;
 
 impl<'a> Cursor<'a> {
@@ -70,8 +69,7 @@ impl<'a> Cursor<'a> {
         Some(end)
     }
 
-    /// Reads the next block, after which no whole one follows, and packs it up to its first stop. Returns how many bytes are
-    /// gathered then, or None if it packs nothing.
+    /// Reads the next block, after which no whole one follows, and packs it as `pack_whole` does.
     #[inline(always)]
     pub(super) fn pack_end(&mut self, room: &mut Buffer, len: usize) -> Option<usize>
         requires looking { Looking self.old.source self.old.block self.old.place 0 }

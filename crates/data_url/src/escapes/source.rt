@@ -8,9 +8,10 @@ ghost use Rattle.data_url.specs.Steps.{Tail.{IsBodyEnd}, Walk.{IsBlock, Looking}
 ghost use Rattle.data_url.specs.Url.{after, number_sign};
 
 use super::gather::Buffer;
-use super::lanes::{BLOCK, marks_of};
+use super::lanes::marks_of;
 use super::looks::Looks;
 use super::marks::Block;
+use crate::classes::lanes::BLOCK;
 use std::simd::prelude::*;
 
 /// A text with a count of the bytes examined.
@@ -89,8 +90,7 @@ impl<'a> Source<'a> {
         &self.text.as_bytes()[start..end]
     }
 
-    /// Copies a stretch of at most 64 bytes into a buffer. None of its bytes is examined. The bytes after it in the
-    /// buffer may be overwritten.
+    /// Copies a stretch of at most 64 bytes into a buffer, without a look. The bytes after it in the buffer may be overwritten.
     #[inline(always)]
     pub(super) fn copy(&self, start: usize, end: usize, room: &mut Buffer, len: usize, wide: bool)
         requires forward { start ≤ end }

@@ -6,10 +6,8 @@ use super::alphabet::{decode_block, group_of, is_block_of_symbols};
 use super::held::{FULL, HeldGroups};
 use super::left_over::State;
 use super::{DecodeError, InvalidBase64, InvalidBase64Details};
+use crate::classes::lanes::BLOCK;
 use std::simd::prelude::*;
-
-/// How many symbols are decoded together.
-const BLOCK: usize = 64;
 
 /// How many bytes the closure is called with at most: those of a block of 64 symbols.
 const PIECE: usize = 48;
@@ -112,8 +110,7 @@ where
         DecodeError::InvalidBase64(InvalidBase64 { details })
     }
 
-    /// If the next symbol begins a group, calls the closure with each block of 64 symbols that a text begins with,
-    /// decoded as one piece. Returns how many bytes of the text they take.
+    /// Between groups, calls the closure with each block of 64 symbols that a text begins with. Returns how many bytes these take.
     #[inline(always)]
     fn read_blocks(&mut self, text: &[u8]) -> Result<usize, DecodeError<E>>
         requires callable { F.IsAlwaysCallable (state_of self.old).closure }
@@ -140,8 +137,8 @@ where
         Ok(at)
     }
 
-    /// Calls the closure with the bytes of the groups that a text completes before its first fault. Returns how many
-    /// bytes of the text come before the fault and what it is, or the length of the text if there is none.
+    /// Calls the closure with the bytes of the groups before the first fault of a text. Returns the place of the fault and its kind,
+    /// or the length of the text.
     fn read(&mut self, text: &[u8]) -> Result<(usize, Option<InvalidBase64Details>), DecodeError<E>>
         requires callable { F.IsAlwaysCallable (state_of self.old).closure }
         requires going { (state_of self.old).failed ≡ false }
@@ -193,8 +190,8 @@ where
         }
     }
 
-    /// Decodes the tail of a data: URL up to its first `#` or `%`, as `feed` does: tabs and newlines are white space.
-    /// Returns the place of that byte, or the length of the tail. A fault before it is found at once.
+    /// Decodes the tail of a data: URL up to its first `#` or `%`, as `feed` does. Returns the place of that byte, or the length of
+    /// the tail. A fault before it is found at once.
     pub(crate) fn feed_unescaped(&mut self, tail: &[u8]) -> Result<usize, DecodeError<E>>
         requires callable { F.IsAlwaysCallable (state_of self.old).closure }
         requires going { (state_of self.old).failed ≡ false }
@@ -220,9 +217,7 @@ where
     ///
     /// Returns `InvalidBase64`, without a call of the closure, if a lone symbol is left over or the padding does not
     /// fit: there may be no `=` or, after two symbols, two or, after three, one. Returns `WriteError` with the
-    /// closure's error. `finish_with` returns the closure as well.
-    ///
-    /// It may be called only while `has_failed` returns false.
+    /// closure's error. `finish_with` returns the closure as well. It may be called only while `has_failed` returns false.
     pub fn finish(self) -> Result<(), DecodeError<E>>
         requires callable { F.IsAlwaysCallable (state_of self).closure }
         requires going { (state_of self).failed ≡ false }
@@ -231,9 +226,8 @@ where
         self.finish_with().0
     }
 
-    /// Ends the text as `finish` does, and also returns the closure as its last call left it.
-    ///
-    /// It may be called only while `has_failed` returns false.
+    /// Ends the text as `finish` does, and also returns the closure as its last call left it. It may be called only
+    /// while `has_failed` returns false.
     pub fn finish_with(mut self) -> (Result<(), DecodeError<E>>, F)
         requires callable { F.IsAlwaysCallable (state_of self).closure }
         requires going { (state_of self).failed ≡ false }

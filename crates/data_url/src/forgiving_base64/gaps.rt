@@ -11,8 +11,7 @@ use crate::classes::lanes::{put, row, spliced};
 use crate::packing::pack_row;
 use std::simd::prelude::*;
 
-/// Returns how many bytes of white space a text begins with. The most frequent ends of lines come first, and then a newline
-/// before a space.
+/// Returns how many bytes of white space a text begins with. The most frequent ends of lines come first.
 #[inline(always)]
 pub(crate) fn spaces_ahead(text: &[u8]) -> usize
     requires { 3 ≤ length text.now }
@@ -71,8 +70,7 @@ pub(crate) fn pack_rows(text: &[u8], symbols: &mut [u8], enough: usize) -> (usiz
     (have, at)
 }
 
-/// Goes back in a text to where the symbols before a place are whole groups. Returns how many symbols these are, and the
-/// place.
+/// Goes back in a text to where whole groups end. Returns how many symbols come before that, and the place.
 #[inline(always)]
 pub(crate) fn before_partial(text: &[u8], have: usize, at: usize) -> (usize, usize)
     requires within { at ≤ length text.now }
@@ -91,8 +89,7 @@ pub(crate) fn before_partial(text: &[u8], have: usize, at: usize) -> (usize, usi
     (have, at)
 }
 
-/// Decodes the groups of a number of symbols, and writes their bytes at a place. Up to 16 bytes after these may be
-/// overwritten.
+/// Decodes the groups of a number of symbols to a place. Up to 16 bytes after them may be overwritten.
 #[inline(always)]
 pub(crate) fn decode_unit(symbols: &[u8], count: usize, bytes: &mut [u8], at: usize)
     requires long { count + 16 ≤ length symbols.now }

@@ -6,8 +6,7 @@ use super::alphabet::{decode_row, group_of, is_of_symbols, is_symbol, symbols_ah
 use super::gaps::{before_partial, decode_unit, pack_rows, row_over_gap, spaces_ahead};
 use crate::classes::lanes::{last_row, put, row};
 
-/// How many bytes of groups are held before the closure is called with them: those of 64 groups. With 16
-/// groups, which are one piece, lines of 76 symbols take a fifth to a third longer.
+/// How many bytes of groups are held before the closure is called. With 16 groups, lines of 76 symbols take a fifth longer.
 pub(crate) const FULL: usize = 192;
 
 /// The bytes of up to 64 groups, and of up to three groups of the row that was added last.
@@ -66,9 +65,8 @@ impl HeldGroups {
         self.len = end;
     }
 
-    /// Adds whole groups that a text begins with: those of rows of sixteen bytes and of what is left after them or, of a short
-    /// text, one group. White space between the
-    /// symbols of a row and after its groups is skipped. Returns how many bytes of the text they take.
+    /// Adds whole groups that a text begins with: those of rows of sixteen bytes, or one group of a short text. White space between
+    /// and after their symbols is skipped. Returns how many bytes of the text they take.
     #[inline(always)]
     pub(crate) fn fill(&mut self, text: &[u8]) -> usize
         requires room { self.old.len < 192 }
@@ -95,8 +93,7 @@ impl HeldGroups {
         4
     }
 
-    /// Adds the groups of rows of sixteen symbols that a text begins with, until 64 groups are held. A row may have white
-    /// space in one place. Returns how many bytes of the text the rows take.
+    /// Adds the groups of rows of sixteen symbols, each with a gap at most, until 64 groups are held. Returns how many bytes they take.
     #[inline(never)]
     fn fill_rows(&mut self, text: &[u8]) -> usize
         requires room { self.old.len < 192 }
@@ -136,8 +133,7 @@ impl HeldGroups {
         at
     }
 
-    /// Adds the whole groups that the last bytes of a text begin with, from a place on. These are fewer than sixteen. Returns how
-    /// many bytes the groups take.
+    /// Adds the whole groups that the last bytes of a text begin with, from a place on. Returns how many bytes these take.
     #[inline(always)]
     fn fill_last(&mut self, text: &[u8], at: usize) -> usize
         requires long { 16 ≤ length text.now }
@@ -154,8 +150,7 @@ impl HeldGroups {
         4 * groups
     }
 
-    /// Adds whole groups that a text begins with, without the white space between their symbols, until 64 groups are held
-    /// or no row of symbols and white space follows. Returns how many bytes of the text they take.
+    /// Adds the whole groups of rows of symbols and white space, until 64 groups are held. Returns how many bytes they take.
     #[inline(never)]
     fn fill_spaced(&mut self, text: &[u8]) -> usize
         requires room { self.old.len < 192 }

@@ -32,8 +32,7 @@ impl State {
         self.pending == 0 && self.padding == 0
     }
 
-    /// Takes the next bytes of a text, and adds the groups that they complete: whole groups if the next symbol begins a
-    /// group and the text begins with whole groups, or else one byte. Returns how many bytes it took.
+    /// Takes whole groups that a text begins with, or else one byte, and adds what is complete. Returns how many bytes it took.
     #[inline(always)]
     pub(super) fn take_some(
         &mut self,

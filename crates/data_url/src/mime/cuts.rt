@@ -1,10 +1,8 @@
 //! Where texts are cut: at HTTP whitespace, at marks and after token code points (MIME Sniffing Standard, section 3).
 #![tactic(auto, using(crate::proofs::mime::Parsing::cuts))]
 
-ghost use Rattle.std.specs.Prelude.{◌≡◌, [], None, Some, MatchOption, length, take};
-ghost use Rattle.std.specs.Str.{chars};
-ghost use Rattle.data_url.specs.CodePoints.{is_http_whitespace, is_token};
-ghost use Rattle.data_url.specs.Mime.{is_token_text};
+ghost use Rattle.std.specs.{Prelude.{◌≡◌, [], None, Some, MatchOption, length, take}, Str.{chars}};
+ghost use Rattle.data_url.specs.{CodePoints.{is_http_whitespace, is_token}, Mime.{is_token_text}};
 ghost use Rattle.data_url.specs.Url.{without_end, without_start};
 ghost use Rattle.data_url.specs.Steps.Parsing.{IsTokens, IsTrimmedEnd, after_mark, front_of, in_name, in_value};
 
@@ -61,8 +59,7 @@ pub(super) fn split_tokens(text: &str) -> Option<(&str, &str)>
     Some(text.split_at(len))
 }
 
-/// Splits a text before its first `;` or `=`. The flag is whether the first part is not empty and has only token code
-/// points.
+/// Splits a text before its first `;` or `=`. The flag is whether the first part has token code points alone, and is not empty.
 #[inline(always)]
 #[tactic(auto, using(crate::proofs::mime::TokenTexts::names))]
 pub(super) fn split_name(text: &str) -> (&str, bool, &str)

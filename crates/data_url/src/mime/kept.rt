@@ -1,11 +1,8 @@
 //! The parameters that are kept while a MIME type is read: of each name the first.
 
 ghost use Rattle.std.specs.Prelude.{false, ◌≡◌, ◌==◌, ◌<◌, ◌≤◌, ◌+◌, ◌++◌, ◌∷◌, [], IsTrue, OnOk, drop, length, map, take, true};
-ghost use Rattle.std.specs.Char.{to_ascii_lowercase};
-ghost use Rattle.std.specs.Simd.Lanes.{mask_l};
-ghost use Rattle.std.specs.Str.{chars};
-ghost use Rattle.data_url.specs.Mime.{has_name, is_lowercase_name, is_token_text};
-ghost use Rattle.data_url.specs.MimeType.{code_points};
+ghost use Rattle.std.specs.{Char.{to_ascii_lowercase}, Simd.Lanes.{mask_l}, Str.{chars}};
+ghost use Rattle.data_url.specs.{Mime.{has_name, is_lowercase_name, is_token_text}, MimeType.{code_points}};
 ghost use Rattle.data_url.specs.Steps.Parsing.{unless_named};
 ghost use Rattle.data_url.specs.Steps.Kept.{AreUnnamed, IsIndexed, fingerprint_of, first_of, pairs_of};
 
@@ -23,8 +20,7 @@ pub(super) const FINGERPRINTS_LEN: usize = 144;
 /// The bit in which the two cases of an ASCII letter differ.
 const CASE: u8 = 32;
 
-/// The pairs that are kept. Each of the first ones has a fingerprint, so that a search compares few names.
-/// The names of the later ones are also in a set.
+/// The pairs that are kept. The first ones have fingerprints, by which they are found. The names of the later ones are in a set.
 #[derive(Drop)]
 pub(super) struct KeptParameters {
     pub(super) pairs: Vec<(String, String)>,
@@ -105,8 +101,7 @@ impl KeptParameters {
     }
 }
 
-/// Returns a byte for a name, the same in any ASCII case. It is computed from the last bytes, in which numbered names
-/// differ.
+/// Returns a byte for a name, the same in any ASCII case, from its last bytes, in which numbered names differ.
 #[inline(always)]
 fn fingerprint(name: &str) -> u8
     requires { 0 < length name.now }

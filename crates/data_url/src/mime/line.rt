@@ -1,8 +1,7 @@
 //! A buffer, so that a line is written in few calls.
 #![tactic(auto, using(crate::proofs::mime::RoundTrips::lines))]
 
-ghost use Rattle.std.specs.Fmt.{WritesStyledOnOk};
-ghost use Rattle.std.specs.Prelude.{◌≡◌, ◌+◌, ◌++◌, ◌≤◌, [], length};
+ghost use Rattle.std.specs.{Fmt.{WritesStyledOnOk}, Prelude.{◌≡◌, ◌+◌, ◌++◌, ◌≤◌, [], length}};
 ghost use Rattle.data_url.specs.Steps.Printing.{AddsOnOk, IsHeld, held};
 
 use std::{fmt, str};

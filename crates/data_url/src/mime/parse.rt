@@ -5,8 +5,7 @@ ghost use Rattle.std.specs.Str.{chars};
 ghost use Rattle.data_url.specs.Mime.{BeginsParameters, IsHead, Item, Items, is_token_text, kept_pairs, valid_of, IsRecordOfParts};
 ghost use Rattle.data_url.specs.Url.{without_start};
 ghost use Rattle.data_url.specs.Steps.Parsing.{HasNoHead, Quoting, given_reading, in_value, item_in, pair_in, plain_reading, quotable_value, quoted_len, reading_in, unless_named, value_of};
-ghost use Rattle.data_url.specs.Steps.Kept.{IsIndexed, pairs_of};
-ghost use Rattle.data_url.specs.MimeType.{pair_of, record_of};
+ghost use Rattle.data_url.specs.{Steps.Kept.{IsIndexed, pairs_of}, MimeType.{pair_of, record_of}};
 
 use super::Mime;
 use super::cuts::{

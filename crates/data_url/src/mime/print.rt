@@ -1,10 +1,7 @@
 //! Writes a MIME type (MIME Sniffing Standard, section 4.5).
 
-ghost use Rattle.std.specs.Fmt.{WritesStyledOnOk};
-ghost use Rattle.std.specs.List.{flat_map};
-ghost use Rattle.std.specs.Str.{chars, encode_utf8_all};
-ghost use Rattle.data_url.specs.Mime.{escaped_code_point, printed_pair};
-ghost use Rattle.data_url.specs.Steps.Printing.{AddsOnOk, IsHeld};
+ghost use Rattle.std.specs.{Fmt.{WritesStyledOnOk}, List.{flat_map}, Str.{chars, encode_utf8_all}};
+ghost use Rattle.data_url.specs.{Mime.{escaped_code_point, printed_pair}, Steps.Printing.{AddsOnOk, IsHeld}};
 
 use super::cuts::is_token_text;
 use super::line::Line;
@@ -64,8 +61,7 @@ fn write_each_escaped<W: fmt::Write>(f: &mut fmt::Formatter<W>, text: &str) -> f
     Ok(())
 }
 
-/// Writes a code point, with a `\` before a `"` or a `\`. This is one call of the writer. An ASCII code point has an arm of
-/// its own, in which its length is a constant.
+/// Writes a code point, with a `\` before a `"` or a `\`, by one call of the writer. The length of an ASCII one is a constant.
 fn write_escaped_char<W: fmt::Write>(f: &mut fmt::Formatter<W>, c: char) -> fmt::Result
     ensures { WritesStyledOnOk W.write_str_gives f.old result
         (encode_utf8_all (escaped_code_point c)) f.new }

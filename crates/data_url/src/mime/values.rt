@@ -2,12 +2,8 @@
 #![tactic(auto, using(crate::proofs::mime::FirstNames::lower_chars, crate::proofs::mime::Parsing::quotable_by))]
 
 ghost use Rattle.std.specs.Prelude.{◌≡◌, ◌<◌, ◌≤◌, ◌+◌, ◌-◌, ◌++◌, IfOk, IsTrue, drop, false, length, map, take, true};
-ghost use Rattle.std.specs.Char.{to_ascii_lowercase};
-ghost use Rattle.std.specs.Option.{option_map};
-ghost use Rattle.std.specs.Str.{chars};
-ghost use Rattle.data_url.specs.Mime.{is_token_text};
-ghost use Rattle.data_url.specs.Steps.Parsing.{unescaped, value_of};
-ghost use Rattle.data_url.specs.MimeType.{code_points};
+ghost use Rattle.std.specs.{Char.{to_ascii_lowercase}, Option.{option_map}, Str.{chars}};
+ghost use Rattle.data_url.specs.{Mime.{is_token_text}, Steps.Parsing.{unescaped, value_of}, MimeType.{code_points}};
 
 use crate::classes::lanes::{ROW, is_unmarked, marks, put, row};
 use crate::classes::{Class, ESCAPED, has, long_span};
@@ -79,9 +75,8 @@ fn copy_next(bytes: &[u8], at: usize, value: &mut [u8], len: usize) -> (usize, u
     (1 + copied, copied)
 }
 
-/// Copies the bytes before the first `"` or `\` of the whole rows of a text, or all of these rows if there is none. Returns how
-/// many bytes are copied. Bytes after them may be overwritten. The first byte is tested by itself, since one escape often follows
-/// another.
+/// Copies the bytes before the first `"` or `\` of the whole rows of a text, or all of them. Returns how many. Bytes after them may be
+/// overwritten. The first byte is tested by itself, since one escape often follows another.
 #[inline(always)]
 fn copy_rows(text: &[u8], value: &mut [u8], len: usize) -> usize
     requires { len + length text.now ≤ length value.old }

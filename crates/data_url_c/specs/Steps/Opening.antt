@@ -1,7 +1,8 @@
 -- What the private functions that open a URL return.
 use Rattle.std.specs.Prelude.{Bool, Err, List, Ok, Option, Result, Some, drop, length, ℕ, ◌+◌, ◌<◌, ◌^◌, ◌≡◌}
 use Rattle.data_url.specs.DataUrl.{IsAcceptable}
-use Rattle.data_url.specs.Fetch.{Accepted, has_base64_suffix, header_of, mime_text, outcome, plain_body, staged, tail_of}
+use Rattle.data_url.specs.Fetch.{Accepted, has_base64_suffix, header_of, mime_text, outcome, plain_body, staged}
+use Rattle.data_url.specs.Fetch.{tail_of}
 use Rattle.data_url.specs.Mime.{IsRecordOf, Record}
 use Rattle.data_url.specs.Url.{is_c0_control_or_space, without_end}
 use Rattle.data_url.specs.declared.DataUrl.{DataUrl}

@@ -1,6 +1,7 @@
 -- Windows: the indices at which a tail can be cut, so that its parts decode to the parts of its body.
 use Rattle.std.specs.Char.{is_ascii_hexdigit}
-use Rattle.std.specs.Prelude.{[], ◌&&◌, ◌-◌, ◌<◌, ◌==◌, ◌∷◌, ◌≡◌, ◌≤◌, ◌⊎◌, ◌↔◌, Bool, IsTrue, IsUtf8, List, drop, false, length, not, slice_index, take, true, ℕ}
+use Rattle.std.specs.Prelude.{[], ◌&&◌, ◌-◌, ◌<◌, ◌==◌, ◌∷◌, ◌≡◌, ◌≤◌, ◌⊎◌, ◌↔◌, Bool, IsTrue, IsUtf8, List, drop}
+use Rattle.std.specs.Prelude.{false, length, not, slice_index, take, true, ℕ}
 use Rattle.std.specs.Str.{IsCharBoundary}
 use Rattle.data_url.specs.Fetch.{plain_body}
 use Rattle.data_url.specs.Url.{without_tabs_and_newlines}

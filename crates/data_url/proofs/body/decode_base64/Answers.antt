@@ -6,7 +6,8 @@ use Rattle.data_url.proofs.body.decode_base64.Goals as goal
 
 pub returns-in-Err : goal.returns-in-Err
 returns-in-Err g c = rw c.into_closure.ensures
-    (front_refused (CalledAt g.F.FnMut) c.new-decoder.ensures.state (rw c.as_bytes.ensures.value at c.in-Err.ensures.fed))
+    (front_refused (CalledAt g.F.FnMut) c.new-decoder.ensures.state
+    (rw c.as_bytes.ensures.value at c.in-Err.ensures.fed))
 
 pub after-pieces-requires-clause-no_hash : goal.after-pieces-requires-clause-no_hash
 after-pieces-requires-clause-no_hash g c =

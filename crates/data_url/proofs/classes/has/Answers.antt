@@ -1,5 +1,6 @@
 use Rattle.std.proofs.Common.{arith, not, refl}
-use Rattle.data_url.specs.{CodePoints.{is_http_whitespace, is_token}, Steps.Split.{is_plain_path}, Steps.Parsing.{is_escaped, is_quotable_byte, is_unquoted_byte}}
+use Rattle.data_url.specs.{CodePoints.{is_http_whitespace, is_token}, Steps.Split.{is_plain_path}}
+use Rattle.data_url.specs.Steps.Parsing.{is_escaped, is_quotable_byte, is_unquoted_byte}
 use Rattle.data_url.proofs.classes.Rows.{entry_is}
 use Rattle.data_url.proofs.classes.has.Goals as goal
 

@@ -1,4 +1,5 @@
-use Rattle.std.proofs.Common.{◌+◌, ◌-◌, ◌∙◌, ◌≡◌, ap, arith, drop, drop-drop, length, length-drop, replicate, ◌++◌, take_all}
+use Rattle.std.proofs.Common.{◌+◌, ◌-◌, ◌∙◌, ◌≡◌, ap, arith, drop, drop-drop, length, length-drop, replicate, ◌++◌}
+use Rattle.std.proofs.Common.{take_all}
 use Rattle.data_url.proofs.classes.Rows.{picks_last, picks_ok}
 use Rattle.data_url.proofs.classes.lanes.last_row.Goals as goal
 

@@ -1,6 +1,6 @@
 use Rattle.std.proofs.{Common.{◌/◌, ◌^◌, bit_and, arith, get_or, refl}, lemmas.Simd.{zip2_splat}, lemmas.Nat.{and_le_r}}
 use Rattle.data_url.specs.declared.classes.lanes.TheConstants.{COLUMNS}
-use Rattle.data_url.proofs.{forgiving_base64.Vectors.{joined}, forgiving_base64.Lanes.{looked_up, places_ok, repeats_row}}
+use Rattle.data_url.proofs.forgiving_base64.{Vectors.{joined}, Lanes.{looked_up, places_ok, repeats_row}}
 use Rattle.data_url.proofs.classes.lanes.looked_up.Goals as goal
 
 pub swizzle-low : goal.swizzle-low

@@ -1,6 +1,7 @@
 use Rattle.std.proofs.Common.{◌+◌, ◌%◌, arith, get_or, map-id, refl, sym}
 use Rattle.data_url.specs.{Steps.Lanes.{offset_row}, declared.forgiving_base64.alphabet.TheConstants.{OFFSETS}}
-use Rattle.data_url.proofs.forgiving_base64.{Vectors.{joined}, Lanes.{looked_up, offset_rows, places_ok, repeats, row_small}}
+use Rattle.data_url.proofs.forgiving_base64.{Vectors.{joined}, Lanes.{looked_up, offset_rows, places_ok, repeats}}
+use Rattle.data_url.proofs.forgiving_base64.Lanes.{row_small}
 use Rattle.data_url.proofs.forgiving_base64.alphabet.values_of_block.Goals as goal
 
 pub swizzle : goal.swizzle

@@ -1,4 +1,5 @@
-use Rattle.std.proofs.{Common.{refl, true, ◌++◌, encode_utf8_all}, lemmas.Str.{IsUtf8-past_char}, Output.{has_written_styled_append, has_written_styled_of_eq}}
+use Rattle.std.proofs.{Common.{refl, true, ◌++◌, encode_utf8_all}, lemmas.Str.{IsUtf8-past_char}}
+use Rattle.std.proofs.Output.{has_written_styled_append, has_written_styled_of_eq}
 use Rattle.data_url.specs.Mime.{escaped_code_point}
 use Rattle.data_url.proofs.mime.RoundTrips.{escaped_end, escaped_more}
 use Rattle.data_url.proofs.mime.print.write_each_escaped.Goals as goal

@@ -7,15 +7,15 @@ pub mark_from-requires-in-loop-place-clause-looking : goal.mark_from-requires-in
 mark_from-requires-in-loop-place-clause-looking c =
     let i = c.loop-place.invariant in
     let look = c.look_bytes-bytes.ensures in
-    looking_whole {s' = c.look_bytes-bytes.new.self} c.look_bytes-bytes.result i.looking i.unseen (omega arith) look.text
-    look.looks look.bytes c.marks_of.ensures
+    looking_whole {s' = c.look_bytes-bytes.new.self} c.look_bytes-bytes.result i.looking i.unseen (omega arith)
+    look.text look.looks look.bytes c.marks_of.ensures
 
 pub returns-in-Some-mark_from-clause-looking : goal.returns-in-Some-mark_from-clause-looking
 returns-in-Some-mark_from-clause-looking c =
     let i = c.loop-place.invariant in
     let look = c.look_bytes-bytes.ensures in
-    looking_mark (looking_whole {s' = c.look_bytes-bytes.new.self} c.look_bytes-bytes.result i.looking i.unseen (omega arith)
-    look.text look.looks look.bytes c.marks_of.ensures) c.in-Some-mark_from.ensures.1
+    looking_mark (looking_whole {s' = c.look_bytes-bytes.new.self} c.look_bytes-bytes.result i.looking i.unseen
+    (omega arith) look.text look.looks look.bytes c.marks_of.ensures) c.in-Some-mark_from.ensures.1
 
 pub returns-in-Some-mark_from-clause-mark : goal.returns-in-Some-mark_from-clause-mark
 returns-in-Some-mark_from-clause-mark c =
@@ -27,8 +27,8 @@ loop-place-preserved c =
     let i = c.loop-place.invariant in
     let look = c.look_bytes-bytes.ensures in
     record {
-      looking = looking_seen (looking_whole {s' = c.look_bytes-bytes.new.self} c.look_bytes-bytes.result i.looking i.unseen
-          (omega arith) look.text look.looks look.bytes c.marks_of.ensures) (omega arith);
+      looking = looking_seen (looking_whole {s' = c.look_bytes-bytes.new.self} c.look_bytes-bytes.result i.looking
+          i.unseen (omega arith) look.text look.looks look.bytes c.marks_of.ensures) (omega arith);
       on = grind arith;
       unseen = omega arith;
       forward = omega (arith, i.forward);

@@ -12,7 +12,8 @@ returns-in_err-read-clause-fed g c =
 pub returns-in-None-clause-fed : goal.returns-in-None-clause-fed
 returns-in-None-clause-fed g c =
     let read = rw c.in-None.is at c.in_ok-read.ensures.read in
-    reads_feeds (CalledAt g.F.FnMut) (rw (take_all c.in_ok-read.field-0.0 c.args.input.now (omega (arith, read.ends))) at read.reads)
+    reads_feeds (CalledAt g.F.FnMut)
+    (rw (take_all c.in_ok-read.field-0.0 c.args.input.now (omega (arith, read.ends))) at read.reads)
 
 pub returns-in-Some-clause-fed : goal.returns-in-Some-clause-fed
 returns-in-Some-clause-fed g c =

@@ -1,4 +1,5 @@
-use Rattle.std.{proofs.Common.{◌<◌, ℕ, ap, arith, inl, inr, length-take, refl, rules, sym, take, ◌∙◌}, specs.Fn.{CalledAt}}
+use Rattle.std.proofs.Common.{◌<◌, ℕ, ap, arith, inl, inr, length-take, refl, rules, sym, take, ◌∙◌}
+use Rattle.std.specs.Fn.{CalledAt}
 use Rattle.data_url.specs.Decoder.{state_of}
 use Rattle.data_url.proofs.forgiving_base64.Padding.{every_list_all}
 use Rattle.data_url.proofs.forgiving_base64.Steps.{decoded_three, decoded_two, finishes_called, finishes_nothing}

@@ -1,4 +1,5 @@
-use Rattle.std.proofs.Common.{◌*◌, ◌+◌, ◌-◌, ◌∙◌, ℕ, ◌≡◌, ◌≤◌, ◌++◌, ◌/◌, ap, arith, drop, length, length-append, length-drop}
+use Rattle.std.proofs.Common.{◌*◌, ◌+◌, ◌-◌, ◌∙◌, ℕ, ◌≡◌, ◌≤◌, ◌++◌, ◌/◌, ap, arith, drop, length, length-append}
+use Rattle.std.proofs.Common.{length-drop}
 use Rattle.std.{proofs.Common.{replicate, take}, proofs.lemmas.List.{length-replicate}}
 use Rattle.data_url.specs.Steps.Groups.{Fills}
 use Rattle.data_url.proofs.forgiving_base64.Groups.{last_fills}

@@ -1,4 +1,5 @@
-use Rattle.std.proofs.{Common.{arith, refl, sym, w64, ◌∙◌}, lemmas.Bool.{false≢true}, lemmas.Nat.Bits.{bit_at-trailing_zeros, bit_at-zero}}
+use Rattle.std.proofs.{Common.{arith, refl, sym, w64, ◌∙◌}, lemmas.Bool.{false≢true}}
+use Rattle.std.proofs.lemmas.Nat.Bits.{bit_at-trailing_zeros, bit_at-zero}
 use Rattle.data_url.proofs.mime.FirstNames.{first_len, found_named, none_unset, one_cleared}
 use Rattle.data_url.proofs.mime.kept.KeptParameters.is_in_row.Goals as goal
 

@@ -1,7 +1,8 @@
 use Rattle.std.proofs.Common.{arith, refl}
-use Rattle.data_url.specs.{Url.{in_fragment_set, in_path_set, in_query_set}, declared.percent.table.TheConstants.{FRAGMENT, PATH, QUERY}}
+use Rattle.data_url.specs.{Url.{in_fragment_set, in_path_set, in_query_set}, declared.percent.TheConstants.{FRAGMENT}}
+use Rattle.data_url.specs.declared.percent.TheConstants.{PATH, QUERY}
 use Rattle.data_url.proofs.percent.Encoding.{row_by}
-use Rattle.data_url.proofs.percent.table.entry.Goals as goal
+use Rattle.data_url.proofs.percent.entry.Goals as goal
 
 pub returns-in-Path : goal.returns-in-Path
 returns-in-Path c = rw c.in-Path.is (row_by in_path_set PATH refl c.args.byte (omega arith))

@@ -1,8 +1,8 @@
 use Rattle.std.proofs.Common.{ap, ◌∙◌, ◌++◌, rules}
 use Rattle.data_url.specs.Base64.{decoded}
 use Rattle.data_url.proofs.forgiving_base64.WholeTexts.{decodes_keeps, decodes_reads}
-use Rattle.data_url.specs.contracts.forgiving_base64.whole.fn.decode_to_vec.decode_whole as closure
-use Rattle.data_url.proofs.forgiving_base64.whole.decode_to_vec.Goals as goal
+use Rattle.data_url.specs.contracts.forgiving_base64.fn.decode_to_vec.decode_whole as closure
+use Rattle.data_url.proofs.forgiving_base64.decode_to_vec.Goals as goal
 
 pub returns-in-Ok-0₀-clause-bytes : goal.returns-in-Ok-0₀-clause-bytes
 returns-in-Ok-0₀-clause-bytes c =
