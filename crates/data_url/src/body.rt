@@ -50,7 +50,7 @@ where
         Ok(place) => place,
         Err(error) => return (Err(error), decoder.into_closure()),
     };
-    let pieces = Pieces::after(tail, place);
+    let pieces = Pieces::from_place(tail, place);
     let mut feed = |bytes: &[u8]| -> Result<(), DecodeError<E>>
         requires callable { F.IsAlwaysCallable (state_of decoder).closure }
         requires going { (state_of decoder).failed ≡ false }
@@ -75,7 +75,8 @@ where
     requires callable { F.IsAlwaysCallable write }
     requires prefix { IsBodyPrefix pieces.text prefix.now pieces }
     ensures { Decodes (CalledAt F.FnMut) write (length pieces.entry.text + 1)
-        (outcome false (plain_body pieces.entry.text)) (IsBodyEnd pieces.entry.text) result.0 result.1 }
+        (outcome false (plain_body pieces.entry.text)) (IsBodyEnd pieces.entry.text)
+        result.0 result.1 }
 {
     if !prefix.is_empty() {
         if let Err(error) = write(prefix) {
@@ -116,11 +117,12 @@ fn first_len(tail: &str) -> usize {
     FIRST_ROOM
 }
 
-/// Gives room back that was allocated for a fragment, if the body that ends at a place is its text as it is.
+/// Gives room back that was allocated for a fragment, if it is at least half of all, or if the body is its text as it is.
 fn shrink(tail: &str, body: &mut Vec<u8>, place: usize)
     ensures { body.new.items ≡ body.old.items }
 {
-    if place < tail.len() && Pieces::after_prefix(tail).0.len() == place {
+    let is_large = body.capacity() / 2 > body.len();
+    if place < tail.len() && (is_large || Pieces::after_prefix(tail).0.len() == place) {
         body.shrink_to(room_for(place));
     }
 }

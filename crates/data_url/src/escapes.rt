@@ -71,14 +71,14 @@ impl<'a> Pieces<'a> {
         (prefix, Pieces { cursor })
     }
 
-    /// Returns the pieces after a place. There is no `#` before it.
-    pub(crate) fn after(text: &'a str, place: usize) -> Self
+    /// Returns the pieces of a text from a place on. No `#` comes before it.
+    pub(crate) fn from_place(text: &'a str, place: usize) -> Self
         requires within { place ≤ length text.now }
         requires no_hash { after number_sign (drop place text.now) ≡ after number_sign text.now }
         ensures { IsBodyFrom text.entry.now place result }
     {
         Pieces {
-            cursor: Cursor::after(text, place),
+            cursor: Cursor::from_place(text, place),
         }
     }
 

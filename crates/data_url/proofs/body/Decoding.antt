@@ -1,4 +1,5 @@
--- A closure or a decoder that gets a body piece by piece. For `decode_pieces`, `decode_body` and its callers.
+-- A closure or a decoder that gets a body piece by piece. For `take_rest`,
+-- `decode_base64`, `decode_plain` and their callers.
 use Rattle.std.proofs.Common.{Result, Ok, Err, refl, sym, ap, ◌∙◌, append_assoc, arith, length-append, Bool}
 use Rattle.std.{proofs.Common.{MatchBool}, proofs.lemmas.List.{length-map}}
 use Rattle.std.proofs.Common.{Some, false, cond, length-drop, length-take, MatchOption, MatchResult}
@@ -12,7 +13,7 @@ use Rattle.data_url.specs.{Decoder.{Feeds, Finishes, State, start}, Run.{Call, I
 use Rattle.data_url.specs.{Errors.{IsRefused}, Fetch.{Good, outcome_bytes, plain_body, Bad, outcome, Outcome, tail_of}}
 use Rattle.data_url.specs.{Pieces.{Walk}, declared.DataUrl.{DataUrl}}
 use Rattle.data_url.specs.Steps.Chunks.{IsBodyFrom, IsBodyPrefix, IsCallableUntilError, Takes, TakesOn, TakesRest}
-use Rattle.data_url.specs.Steps.{Holding.{ReadsFront, RefusesFront}, Window.{is_plain}}
+use Rattle.data_url.specs.Steps.{Holding.{ReadsUnescaped, RefusesUnescaped}, Window.{is_plain}}
 use Rattle.data_url.specs.Url.{is_tab_or_newline, number_sign}
 use Rattle.std.{proofs.lemmas.Bool.{and_parts, cases_Bool}, specs.Char.{is_ascii_whitespace}, specs.List.{list_all}}
 use Rattle.std.proofs.Common.{drop, take, inl, inr, ◌==◌, not, length-take-le, take-append-drop}
@@ -269,7 +270,7 @@ module _ {F E : Type 0} (step : F → List ℕ → Result (Unit {0}) E → F →
 
   -- the front of a tail has a fault, or the closure returned an error
   pub front_refused : {f : F} {d d' : State F} {tail : List ℕ} {x : DecodeError E} → d ≡ start f
-      → RefusesFront step d tail x d'
+      → RefusesUnescaped step d tail x d'
       → Decodes step f (length tail + 1) (outcome true (plain_body tail)) (IsBodyEnd tail) (Err x) d'.closure
   front_refused {tail = tail} {x = x} e h =
       let fed = feeds_err step (plain_body (drop h.at tail)) (rw e at h.feeds) in
@@ -293,7 +294,7 @@ module _ {C F E : Type 0} {outer : C → List ℕ → Result (Unit {0}) (DecodeE
 
   -- after the front of a tail, a closure that feeds the decoder takes the rest of the body up to an error
   pub fed_refused : {f : F} {c c' : C} {d : State F} {tail : List ℕ} {place : ℕ} {w : Walk}
-      {r : Result ℕ (DecodeError E)} {x : DecodeError E} → d ≡ start f → ReadsFront step d tail place (state c)
+      {r : Result ℕ (DecodeError E)} {x : DecodeError E} → d ≡ start f → ReadsUnescaped step d tail place (state c)
       → IsBodyFrom tail place w → TakesRest outer c w r c' → r ≡ Err x
       → Decodes step f (length tail + 1) (outcome true (plain_body tail)) (IsBodyEnd tail) (Err x) (state c').closure
   fed_refused {f} {c} {c'} {d} {tail} {place} {w} {r} {x} s front from took e =
@@ -309,7 +310,7 @@ module _ {C F E : Type 0} {outer : C → List ℕ → Result (Unit {0}) (DecodeE
   -- then it takes the whole body, and the decoder is finished
   pub fed_ended : {f g : F} {c c' : C} {d : State F} {tail : List ℕ} {place end : ℕ} {w : Walk}
       {r : Result ℕ (DecodeError E)} {p : Result (Unit {0}) (DecodeError E)} {q : Result ℕ (DecodeError E)}
-      → d ≡ start f → ReadsFront step d tail place (state c) → IsBodyFrom tail place w → TakesRest outer c w r c'
+      → d ≡ start f → ReadsUnescaped step d tail place (state c) → IsBodyFrom tail place w → TakesRest outer c w r c'
       → r ≡ Ok end → Finishes step (state c') p g → MatchResult p (λ x. q ≡ Ok end) (λ e. q ≡ Err e)
       → Decodes step f (length tail + 1) (outcome true (plain_body tail)) (IsBodyEnd tail) q g
   fed_ended {f} {g} {c} {c'} {d} {tail} {place} {end} {w} {r} {p} {q} s front from took e ended m =

@@ -1,4 +1,4 @@
--- Symbols of base64 in 16 lanes and in 64. For `alphabet.rt`, `blocks.rt` and `classes/lanes.rt`.
+-- Symbols of base64 in 16 lanes and in 64. For `alphabet.rt` and `classes/lanes.rt`.
 use Rattle.std.proofs.Common.{List, [], ◌∷◌, ◌++◌, map, ◌≡◌, ℕ, ◌<◌, ◌≤◌, true, eqb, get_or, Fits, w8, w32, ap, length}
 use Rattle.std.proofs.Common.{◌+◌, ◌*◌, ◌/◌, ◌%◌, ◌^◌, refl, sym, ◌∙◌, ap₂, arith, suc, zero, take, drop}
 use Rattle.std.proofs.Common.{take-add, replicate}

@@ -1,4 +1,4 @@
--- Blocks of 64 symbols in vectors. For `blocks.rt` and `lanes.rt`.
+-- Blocks of 64 symbols in vectors. For `alphabet.rt`.
 use Rattle.std.proofs.Common.{List, [], ◌∷◌, ◌++◌, map, ◌≡◌, ℕ, ◌<◌, ltb, true, cond, eqb, get_or}
 use Rattle.std.proofs.Common.{length, take, Fits, w8, ap, ◌+◌}
 use Rattle.std.proofs.Common.{◌%◌, Bool, not, refl, sym, ◌∙◌, ap₂, arith, suc, zero, take_all}

@@ -1,4 +1,4 @@
--- Classes of bytes, which are looked up in tables.
+-- Classes of bytes: some are looked up in tables, the others are compared.
 use Rattle.std.specs.Prelude.{◌/◌, ◌%◌, ◌<◌, ◌≤◌, ◌==◌, ◌≡◌, Bool, List, bit_and, false, length, not, slice_index, ℕ}
 use Rattle.data_url.specs.CodePoints.{is_http_whitespace, is_token}
 use Rattle.data_url.specs.Url.{is_c0_control_or_space, is_tab_or_newline}

@@ -84,8 +84,14 @@ pub record EndsWithin {F E : Type 0} (step : F → List ℕ → Result (Unit {0}
   pub no_fault : first_fault (left_over d ++ take at text) ≡ None
   pub feeds : Feeds step d (take at text) (Err x) d'
 
+-- d reads the text up to its first fault, or the closure returns an error before that
+abbrev pub ReadsText : {F E : Type 0} → (F → List ℕ → Result (Unit {0}) E → F → Type 0) → State F → List ℕ
+    → Result (ℕ × Option Kind) (DecodeError E) → State F → Type 0
+ReadsText step d text r d' =
+    MatchResult r (λ read. ReadsTo step d text read.0 read.1 d') (λ x. EndsWithin step d text x d')
+
 -- d reads a tail up to its first '#' or '%', or to its end
-pub record ReadsFront {F E : Type 0} (step : F → List ℕ → Result (Unit {0}) E → F → Type 0) (d : State F)
+pub record ReadsUnescaped {F E : Type 0} (step : F → List ℕ → Result (Unit {0}) E → F → Type 0) (d : State F)
     (tail : List ℕ) (place : ℕ) (d' : State F) : Type 0 where
   pub within : place ≤ length tail
   pub plain : list_all is_plain (take place tail) ≡ true
@@ -93,12 +99,18 @@ pub record ReadsFront {F E : Type 0} (step : F → List ℕ → Result (Unit {0}
   pub reads : Reads step d (take place tail) [] d'
 
 -- feeding d a tail up to an index before which there is no '#' and no '%' ends with an error
-pub record RefusesFront {F E : Type 0} (step : F → List ℕ → Result (Unit {0}) E → F → Type 0) (d : State F)
+pub record RefusesUnescaped {F E : Type 0} (step : F → List ℕ → Result (Unit {0}) E → F → Type 0) (d : State F)
     (tail : List ℕ) (x : DecodeError E) (d' : State F) : Type 0 where
   pub at : ℕ
   pub within : at ≤ length tail
   pub plain : list_all is_plain (take at tail) ≡ true
   pub feeds : Feeds step d (take at tail) (Err x) d'
+
+-- feeding d a tail up to its first '#' or '%' returns the place of that byte, or the length of the tail, or an error
+abbrev pub FeedsUnescaped : {F E : Type 0} → (F → List ℕ → Result (Unit {0}) E → F → Type 0) → State F → List ℕ
+    → Result ℕ (DecodeError E) → State F → Type 0
+FeedsUnescaped step d tail r d' =
+    MatchResult r (λ place. ReadsUnescaped step d tail place d') (λ x. RefusesUnescaped step d tail x d')
 
 -- d passes these bytes, which are held, to its closure, whatever text was read before. After `Ok` the
 -- bytes that are held after them, b, are still held; an error ends the feeding.

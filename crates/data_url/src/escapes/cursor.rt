@@ -56,7 +56,7 @@ impl<'a> Cursor<'a> {
 
     /// A walk that begins at a place of a text. The body ends there if the text does, or if a `#` is there.
     #[inline(always)]
-    pub(super) fn after(text: &'a str, place: usize) -> Self
+    pub(super) fn from_place(text: &'a str, place: usize) -> Self
         requires within { place ≤ length text.now }
         requires no_hash { after number_sign (drop place text.now) ≡ after number_sign text.now }
         ensures from { IsBodyFrom text.entry.now place (walk_of result) }

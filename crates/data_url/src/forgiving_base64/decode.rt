@@ -33,7 +33,7 @@ where
     F: FnMut(&[u8]) -> Result<(), E>,
 {
     ghost use Rattle.std.specs.Fn.{CalledAt};
-    ghost use Rattle.data_url.specs.{Decoder.{Feeds, Finishes, start, state_of}, Steps.Holding.{CallsOnce, EndsWithin, Flushes, Reads, ReadsFront, ReadsTo, RefusesFront}};
+    ghost use Rattle.data_url.specs.{Decoder.{Feeds, Finishes, start, state_of}, Steps.Holding.{CallsOnce, EndsWithin, FeedsUnescaped, Flushes, Reads, ReadsText}};
 
     /// Returns a decoder that has been fed nothing yet. The closure has to accept any bytes, whatever it was called
     /// with before.
@@ -143,10 +143,8 @@ where
         requires callable { F.IsAlwaysCallable (state_of self.old).closure }
         requires going { (state_of self.old).failed ≡ false }
         ensures callable { F.IsAlwaysCallable (state_of self.new).closure }
-        ensures read { MatchResult result
-            (λ r. ReadsTo (CalledAt F.FnMut) (state_of self.old) text.now r.0 r.1 (state_of self.new))
-            (λ error. EndsWithin (CalledAt F.FnMut) (state_of self.old) text.now error
-            (state_of self.new)) }
+        ensures read { ReadsText (CalledAt F.FnMut) (state_of self.old) text.now result
+            (state_of self.new) }
     {
         let mut at = self.read_blocks(text)?;
         let mut groups = HeldGroups::new();
@@ -191,15 +189,13 @@ where
     }
 
     /// Decodes the tail of a data: URL up to its first `#` or `%`, as `feed` does. Returns the place of that byte, or the length of
-    /// the tail. A fault before it is found at once.
+    /// the tail. An error is that of `feed` with bytes before that place.
     pub(crate) fn feed_unescaped(&mut self, tail: &[u8]) -> Result<usize, DecodeError<E>>
         requires callable { F.IsAlwaysCallable (state_of self.old).closure }
         requires going { (state_of self.old).failed ≡ false }
         ensures callable { F.IsAlwaysCallable (state_of self.new).closure }
-        ensures fed { MatchResult result
-            (λ place. ReadsFront (CalledAt F.FnMut) (state_of self.old) tail.now place (state_of self.new))
-            (λ error. RefusesFront (CalledAt F.FnMut) (state_of self.old) tail.now error
-            (state_of self.new)) }
+        ensures fed { FeedsUnescaped (CalledAt F.FnMut) (state_of self.old) tail.now result
+            (state_of self.new) }
     {
         let (place, fault) = self.read(tail)?;
         let Some(details) = fault else {

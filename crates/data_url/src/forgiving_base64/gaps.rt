@@ -95,7 +95,8 @@ pub(crate) fn decode_unit(symbols: &[u8], count: usize, bytes: &mut [u8], at: us
     requires long { count + 16 ≤ length symbols.now }
     requires room { 4 * at + 3 * count + 64 ≤ 4 * length bytes.old }
     ensures { (m : ℕ) → 4 * m ≤ count → IsTrue (list_all is_symbol (take (4 * m) symbols.now))
-        → take (at + 3 * m) bytes.new ≡ take at bytes.old ++ groups (map symbol_value (take (4 * m) symbols.now)) }
+        → take (at + 3 * m) bytes.new
+        ≡ take at bytes.old ++ groups (map symbol_value (take (4 * m) symbols.now)) }
 {
     for index in 0..(count + 15) / 16 {
         put(bytes, at + 12 * index, decode_row(row(symbols, 16 * index)));

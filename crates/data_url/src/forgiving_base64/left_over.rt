@@ -44,8 +44,8 @@ impl State {
         ensures { MatchResult result
             (λ taken. Gains (left_state self.old) (held_bytes groups.old) text.now taken
             (left_state self.new) (held_bytes groups.new))
-            (λ details. Refuses (left_state self.old) (slice_index text.now 0) details (left_state self.new)
-            × (held_bytes groups.new ≡ held_bytes groups.old)) }
+            (λ details. Refuses (left_state self.old) (slice_index text.now 0) details
+            (left_state self.new) × (held_bytes groups.new ≡ held_bytes groups.old)) }
     {
         if self.is_between_groups() {
             let taken = groups.fill(text);

@@ -58,7 +58,8 @@ impl KeptParameters {
         requires indexed { IsIndexed self.now }
         requires token { IsTrue (is_token_text (chars name.now)) }
         requires within { at + 16 ≤ length self.now.fingerprints }
-        requires bits { bits ≡ mask_l (map (λ b. b == fingerprint_of (map to_ascii_lowercase name.now))
+        requires bits { bits ≡ mask_l (map
+            (λ b. b == fingerprint_of (map to_ascii_lowercase name.now))
             (take 16 (drop at self.now.fingerprints))) }
         ensures found { result ≡ true → has_name (map to_ascii_lowercase (chars name.now))
             (first_of (pairs_of self.now)) ≡ true }

@@ -63,7 +63,8 @@ fn copy_next(bytes: &[u8], at: usize, value: &mut [u8], len: usize) -> (usize, u
     requires within { at < length bytes.now }
     requires room { len + (length bytes.now - at) ≤ length value.old }
     ensures sizes { (0 < result.0) × (result.1 ≤ result.0) × (at + result.0 ≤ length bytes.now) }
-    ensures value { take (len + result.1) value.new ++ unescaped false (drop (at + result.0) bytes.now)
+    ensures value { take (len + result.1) value.new
+        ++ unescaped false (drop (at + result.0) bytes.now)
         ≡ take len value.old ++ unescaped false (drop at bytes.now) }
 {
     if bytes[at] != b'\\' || at + 1 == bytes.len() {

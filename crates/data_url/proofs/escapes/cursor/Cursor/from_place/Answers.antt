@@ -1,6 +1,6 @@
 use Rattle.std.proofs.Common.{refl}
 use Rattle.data_url.proofs.escapes.Walking.{short_rest}
-use Rattle.data_url.proofs.escapes.cursor.Cursor.after.Goals as goal
+use Rattle.data_url.proofs.escapes.cursor.Cursor.from_place.Goals as goal
 
 pub returns-clause-from : goal.returns-clause-from
 returns-clause-from c = record {
