@@ -314,7 +314,7 @@ fn lines_of_base64() {
     }
 }
 
-/// The decoder is fed lines in stretches of some 4,000 bytes.
+/// The lines are longer than the 4 KiB whose bytes decide how much room is allocated.
 #[test]
 fn long_lines_of_base64() {
     let text = lines(76, 60);

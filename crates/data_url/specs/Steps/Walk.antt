@@ -157,7 +157,7 @@ pub record MayGather (c : Cursor) (len : ℕ) : Type 0 where
 abbrev pub IsWide : Cursor → Bool → Type 0
 IsWide c is_followed = is_followed ≡ true → c.block.seen + 64 ≤ length (text_of c)
 
--- the block that was read last has 64 bytes from the walk's index on: these, and it has their marks
+-- the block that was read last begins at the walk's place, has these 64 bytes, and their marks
 pub record IsWhole (c : Cursor) (bytes : List ℕ) : Type 0 where
   pub seen_is : c.block.seen ≡ c.place + 64
   pub bytes_are : bytes ≡ take 64 (drop c.place (text_of c))

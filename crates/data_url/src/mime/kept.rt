@@ -51,8 +51,8 @@ impl KeptParameters {
         false
     }
 
-    /// Whether one of the first pairs has the name, in any ASCII case, of those whose fingerprints are in the row at a place. A
-    /// bit is set for each fingerprint of the row that the name has, too.
+    /// Whether one of the pairs of a row has the name, in any ASCII case. The row begins at `at`, and `bits` are those of its
+    /// pairs whose fingerprint is that of the name.
     #[inline(always)]
     fn is_in_row(&self, name: &str, at: usize, bits: u64) -> bool
         requires indexed { IsIndexed self.now }
