@@ -475,11 +475,33 @@ fn push_short_bindings(table: &mut Table) {
     }
 }
 
+/// MIME types and fragments through `bindings/rust`. The rows of fragments open the URL as well.
+#[cfg(not(feature = "against"))]
+fn push_text_bindings(table: &mut Table) {
+    use crate::bindings;
+    for (kind, header) in [HEADERS[2], HEADERS[5]] {
+        let make =
+            move |numbers: &mut Numbers| format!("{header}{}", numbers.below(1000)).into_bytes();
+        let calls: (Call, Call) = (bindings::mime, theirs::mime);
+        let row = table.push(format!("bindings mime {kind} from_str"), make, calls);
+        row.shows_ours = bindings::mime_printed;
+        row.shows_theirs = theirs::mime_printed;
+    }
+    for (len, size) in [(20, "20"), SIZES[0], SIZES[1]] {
+        table.push(
+            format!("bindings fragment {size} to_percent_encoded"),
+            move |numbers| url("", &[b"#", &fragment(numbers, len)[..]].concat()),
+            (bindings::fragment, theirs::fragment),
+        );
+    }
+}
+
 /// Rows of `bindings/rust` beside the crate whose place it takes.
 #[cfg(not(feature = "against"))]
 fn push_bindings(table: &mut Table) {
     use crate::bindings;
     push_short_bindings(table);
+    push_text_bindings(table);
     let kinds: [(&str, fn(&mut Numbers, usize) -> Vec<u8>); 5] = [
         ("url base64 clean", |numbers, len| {
             base64_url(&base64(numbers, len, Lines::NONE))

@@ -117,11 +117,11 @@ fn first_len(tail: &str) -> usize {
     FIRST_ROOM
 }
 
-/// Gives room back that was allocated for a fragment, if it is at least half of all, or if the body is its text as it is.
+/// Gives room back that was allocated for a fragment, if it is at least 4 KiB and half of all, or if the body is clean.
 fn shrink(tail: &str, body: &mut Vec<u8>, place: usize)
     ensures { body.new.items ≡ body.old.items }
 {
-    let is_large = body.capacity() / 2 > body.len();
+    let is_large = body.capacity() / 2 > body.len().max(PROBED);
     if place < tail.len() && (is_large || Pieces::after_prefix(tail).0.len() == place) {
         body.shrink_to(room_for(place));
     }

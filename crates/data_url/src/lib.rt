@@ -176,7 +176,7 @@ impl<'a> DataUrl<'a> {
     /// newlines and `%` is allocated once. For any other, room for at most 64 KiB, or for the bytes before the first of
     /// these if they are more, is allocated first, and grows. For base64, it is room for all bytes after the comma, if
     /// they are at most 64 KiB or the first 4 KiB have none of these and no `#`. What a fragment took is given back if
-    /// it is at least half, or if the body has none of these.
+    /// it is at least half and 4 KiB, or if the body has none of these.
     ///
     /// Returns `InvalidBase64` with the first fault if the body is base64 that is not valid, and `OutOfMemory` if
     /// allocation fails. If both happen, it is `OutOfMemory` if allocation fails before the fault is found: room is
