@@ -34,7 +34,7 @@ def inputs_and_outputs(program):
 
 def main(folder):
     programs = shown()
-    assert len(programs) == 6, f"{len(programs)} programs are shown"
+    assert len(programs) == 5, f"{len(programs)} programs are shown"
     for number, program in enumerate(programs):
         texts = (program, *inputs_and_outputs(program))
         for ending, text in zip(("c", "in", "out", "long", "long_out"), texts):
