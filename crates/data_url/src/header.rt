@@ -21,29 +21,21 @@ fn split_last_space<'a>(path: &'a [u8], query: &[u8]) -> (&'a [u8], &'static str
         → encoded_parts result.0.now result.1.now query.now
         ≡ header_text (without_tabs_and_newlines header) }
 {
-    if query.is_empty() {
-        return (path, "");
-    }
     let end = path.len() - end_span(Class::TabOrNewline, path);
-    if end == 0 || path[end - 1] != b' ' {
+    if query.is_empty() || end == 0 || path[end - 1] != b' ' {
         return (path, "");
     }
     (&path[..end - 1], "%20")
 }
 
-/// Returns the text of a header, serialised. Room is allocated by the length of a long header; a short one is encoded before.
+/// Returns the text of a header, serialised. Room is allocated once for a header of at most one part, whatever is encoded.
 #[inline(never)]
 #[tactic(auto, using(crate::proofs::header::Serialising::serialising))]
 fn serialised(alloc: Global, header: &[u8]) -> Result<String, AllocError>
     ensures { IfOk result (λ text. string_bytes text
         ≡ header_text (without_tabs_and_newlines header.now)) }
 {
-    let room = if header.len() <= PART {
-        0
-    } else {
-        header.len()
-    };
-    let mut text = String::with_capacity(alloc, room)?;
+    let mut text = String::with_capacity(alloc, header.len() + 2 * header.len().min(PART))?;
     let (path, query) = header.split_at(span(Class::Path, header));
     let (path, space) = split_last_space(path, query);
     push_encoded(&mut text, EncodeSet::Path, path)?;
@@ -94,10 +86,7 @@ pub(crate) fn serialised_text<'a>(text: &'a Option<String>, header: &'a str) -> 
     ensures text { result.now ≡ header_text (without_tabs_and_newlines header.now) }
     ensures printable { IsPrintable result.now }
 {
-    match text {
-        Some(text) => text.as_str(),
-        None => header,
-    }
+    text.as_deref().unwrap_or(header)
 }
 
 /// A serialised header without its suffix, and whether it has one, so that the body is base64.

@@ -22,23 +22,34 @@ pub(crate) enum EncodeSet {
     Fragment,
 }
 
-/// How many bytes are encoded at a time.
+/// How many bytes are tested at most before they are copied, so that the processor's first cache holds them.
+const STRETCH: usize = 16 * 1024;
+
+/// How many bytes are encoded by the table at a time.
 pub(crate) const PART: usize = 128;
 
 /// The size of the buffer, in bytes: more than a part is written as.
 const BUFFER_LEN: usize = 512;
 
-/// Returns what a part is written as, without its tabs and newlines and percent-encoded. That is the part itself if
-/// each of its bytes is in whole rows and written as it is, and otherwise the start of the buffer.
+/// Returns what the next part is written as, without its tabs and newlines and percent-encoded, and the bytes after the part. A
+/// stretch that is written as it is, is a part if it is long or at least half of what is left.
 #[inline(always)]
-fn encode_part<'a>(set: EncodeSet, part: &'a [u8], room: &'a mut [u8; BUFFER_LEN]) -> &'a [u8]
-    requires { length part.now ≤ 128 }
-    ensures written { result.now
-        ≡ percent_encoding (in_set set) (without_tabs_and_newlines part.now) }
-    ensures text { IsUtf8 result.now }
+fn encode_next<'a: 'r, 'r>(
+    set: EncodeSet,
+    bytes: &'a [u8],
+    room: &'r mut [u8; BUFFER_LEN],
+) -> (&'r [u8], &'a [u8])
+    ensures written { result.0.now
+        ++ percent_encoding (in_set set) (without_tabs_and_newlines result.1.now)
+        ≡ percent_encoding (in_set set) (without_tabs_and_newlines bytes.now) }
+    ensures text { IsUtf8 result.0.now }
+    ensures less { 0 < length bytes.now → length result.1.now < length bytes.now }
 {
-    if rows_len(others(set), part) == part.len() {
-        return part;
+    let (part, after_part) = bytes.split_at(bytes.len().min(PART));
+    let stretch = &bytes[..bytes.len().min(STRETCH)];
+    let (kept, after) = bytes.split_at(rows_len(others(set), stretch));
+    if 2 * kept.len() >= part.len() {
+        return (kept, after);
     }
     let mut at = 0;
     for byte in part {
@@ -46,7 +57,7 @@ fn encode_part<'a>(set: EncodeSet, part: &'a [u8], room: &'a mut [u8; BUFFER_LEN
         room[at..at + 4].copy_from_slice(entry);
         at += usize::from(entry[3]);
     }
-    &room[..at]
+    (&room[..at], after_part)
 }
 
 /// Writes bytes at the end of a text, without their tabs and newlines and percent-encoded.
@@ -66,8 +77,7 @@ pub(crate) fn push_encoded(
     let mut room = [0; BUFFER_LEN];
     let mut rest = bytes;
     while !rest.is_empty() {
-        let (part, after) = rest.split_at(rest.len().min(PART));
-        let written = encode_part(set, part, &mut room);
+        let (written, after) = encode_next(set, rest, &mut room);
         text.push_str(unsafe { str::from_utf8_unchecked(written) })?;
         rest = after;
     }

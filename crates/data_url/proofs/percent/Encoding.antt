@@ -5,10 +5,13 @@ use Rattle.std.proofs.Common.{Option, None, Some, sym, ap, ◌∙◌, inl, inr, 
 use Rattle.std.proofs.Common.{arith, suc, ◌≤◌, get_or, ◌==◌, slice_index, nat_lt, take_all}
 use Rattle.std.proofs.{lemmas.{Slice.Eq.{bytes_eq-Decides}, Bool.{agree_below}}, Math.Seq.{take-append-add}}
 use Rattle.std.proofs.lemmas.Bool.{agree_below_at, and_parts, eqb-true, and_left, cases_Bool, cond_both, both_ways}
+use Rattle.std.proofs.lemmas.Bool.{cases_lt}
 use Rattle.std.proofs.lemmas.{Bool.{ne_eqb, ltb-true}, Str.Ascii.{IsAscii-nil}, List.{nil_from_length, take_more}}
+use Rattle.std.proofs.lemmas.List.{get_or-take, get_or_past, length-take}
 use Rattle.std.proofs.lemmas.{Str.{IsAscii-append, IsUtf8-from_ascii}, Slice.{take-put_mid}}
 use Rattle.std.specs.{Char.{digit_value, is_ascii_hexdigit}, List.{AllByRecursion, list_all}, Str.{bytes_eq, IsAscii}}
 use Rattle.std.specs.Str.{IsUtf8}
+use Rattle.data_url.specs.Steps.Classes.{AreOf, is_marked}
 use Rattle.data_url.specs.{Percent.{percent_decoding}, Steps.{Header.{header_parts, header_text}, Sets.{IsEntry}}}
 use Rattle.data_url.specs.{Steps.Sets.{byte_encoding, in_set}, Url.{in_path_end_set, percent_encoding, serialised}}
 use Rattle.data_url.specs.Url.{with_query, without_tabs_and_newlines, in_path_set, in_query_set, before, after}
@@ -290,6 +293,19 @@ pub kept_whole : (p : ℕ → Bool) (s : List ℕ)
 kept_whole p [] h = sym (encoded_empty p)
 kept_whole p (b ∷ s) h =
     sym (cc (written_first p b s, h 0 (omega arith), kept_whole p s (λ k l. h (suc k) (omega arith))))
+
+-- the first bytes of a text of bytes
+pub first_bytes : (s : List ℕ) (n : ℕ) → ((i : ℕ) → get_or s i 0 < 256) → (i : ℕ) → get_or (take n s) i 0 < 256
+first_bytes s n h i = let byte = h i in grind (arith, cases_lt i n, get_or-take, get_or_past, length-take)
+
+-- the bytes before the first marked one of a stretch at the start of a text are written as they are
+pub kept_front : (p : ℕ → Bool) (others s : List ℕ) (m n : ℕ)
+    → ((b : ℕ) → b < 256 → is_marked others b ≡ false → byte_encoding p b ≡ b ∷ []) → ((i : ℕ) → get_or s i 0 < 256)
+    → n ≤ length (take m s) → AreOf others (take m s) n → take n s ≡ encoded p (take n s)
+kept_front p others s m n as_is bytes l unmarked = kept_whole p (take n s) (λ k w.
+    let within : k < n = omega (arith, w, length-take n s) in
+    let read = get_or-take m s k 0 (omega (arith, within, l, length-take m s)) in
+    rw (get_or-take n s k 0 within) (as_is (get_or s k 0) (bytes k) (rw read at (unmarked k within))))
 
 -- the byte is written as it is in a path, and is none of '#', ',' and '?'
 pub record Plain (b : ℕ) : Type 0 where

@@ -153,9 +153,9 @@ pub record MayGather (c : Cursor) (len : ℕ) : Type 0 where
   pub unknown : c.ahead ≡ Unknown
   pub room : HasRoom c len
 
--- if the block is followed by another one, 64 more bytes of the text come after it, so that whole blocks can be copied
+-- if a block is wide, 64 more bytes of the text come after it, so that whole blocks can be copied
 abbrev pub IsWide : Cursor → Bool → Type 0
-IsWide c is_followed = is_followed ≡ true → c.block.seen + 64 ≤ length (text_of c)
+IsWide c wide = wide ≡ true → c.block.seen + 64 ≤ length (text_of c)
 
 -- the block that was read last begins at the walk's place, has these 64 bytes, and their marks
 pub record IsWhole (c : Cursor) (bytes : List ℕ) : Type 0 where

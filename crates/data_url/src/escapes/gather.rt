@@ -15,6 +15,9 @@ use crate::classes::lanes::BLOCK;
 /// How many bytes the buffer holds in which short stretches and values of escapes are gathered.
 pub(crate) const BUFFER_LEN: usize = 512;
 
+/// With this many marks in a block, escapes are likely to follow one another: a block of escapes alone has 21 or 22.
+const DENSE: u32 = 18;
+
 /// The buffer itself.
 pub(super) type Buffer = [u8; BUFFER_LEN];
 
@@ -92,21 +95,22 @@ impl<'a> Cursor<'a> {
         if len == 0 && self.block.marks == 0 {
             return None;
         }
-        let is_followed = self.source.len() - self.block.seen >= BLOCK;
-        Some(if is_followed {
+        let wide = self.source.len() - self.block.seen >= BLOCK
+            && self.block.marks.count_ones() < DENSE;
+        Some(if wide {
             self.gather_block(room, len, true)
         } else {
             self.gather_block(room, len, false)
         })
     }
 
-    /// Gathers the rest of the block that was read, after the bytes that were gathered before. If the block `is_followed` by
-    /// another one, whole blocks are copied. Otherwise escapes that follow one another are gathered without a look for marks.
+    /// Gathers the rest of the block that was read, after the bytes that were gathered before. If it is `wide`, another
+    /// one follows it, and whole blocks are copied. Otherwise escapes that follow one another are gathered without a look for marks.
     #[inline(always)]
-    fn gather_block(&mut self, room: &mut Buffer, len: usize, is_followed: bool) -> usize
+    fn gather_block(&mut self, room: &mut Buffer, len: usize, wide: bool) -> usize
         requires may { MayGather self.old len }
         requires here { self.old.place < self.old.block.seen }
-        requires wide { IsWide self.old is_followed }
+        requires wide { IsWide self.old wide }
         ensures gathered { Gathered self.old self.new room.old room.new len result }
         ensures moves { Moves self.old self.new }
     {
@@ -114,14 +118,13 @@ impl<'a> Cursor<'a> {
         while self.place < self.block.seen {
             let place = self.place;
             let Some(mark) = self.block.mark_from(&self.source, place) else {
-                self.source
-                    .copy(place, self.block.seen, room, len, is_followed);
+                self.source.copy(place, self.block.seen, room, len, wide);
                 self.place = self.block.seen;
                 return len + (self.place - place);
             };
-            self.source.copy(place, mark, room, len, is_followed);
+            self.source.copy(place, mark, room, len, wide);
             self.place = mark;
-            let (more, ended) = self.gather_mark(room, len + (mark - place), is_followed);
+            let (more, ended) = self.gather_mark(room, len + (mark - place), wide);
             len = more;
             if ended {
                 return len;
@@ -132,16 +135,16 @@ impl<'a> Cursor<'a> {
 
     /// Gathers what begins at the mark at the place. Returns how many bytes are gathered then, and whether the body ends.
     #[inline(always)]
-    fn gather_mark(&mut self, room: &mut Buffer, len: usize, is_followed: bool) -> (usize, bool)
+    fn gather_mark(&mut self, room: &mut Buffer, len: usize, wide: bool) -> (usize, bool)
         requires may { MayGather self.old len }
         requires here { self.old.place < self.old.block.seen }
-        requires wide { IsWide self.old is_followed }
+        requires wide { IsWide self.old wide }
         requires marked { is_marked (slice_index (text_of self.old) self.old.place) ≡ true }
         ensures gathers { Gathers self.old self.new room.old room.new len result.0 }
         ensures goes { IsGathered self.old self.new result.0 result.1 }
     {
         let mark = self.place;
-        match self.source.at_mark(mark, is_followed) {
+        match self.source.at_mark(mark, wide) {
             AtMark::Stays => {
                 room[len] = b'%';
                 self.place = mark + 1;
@@ -154,7 +157,7 @@ impl<'a> Cursor<'a> {
             AtMark::Escape(value, end) => {
                 room[len] = value;
                 self.place = end;
-                let len = if is_followed {
+                let len = if wide {
                     len + 1
                 } else {
                     self.gather_escapes(room, len + 1)

@@ -2,13 +2,13 @@ use Rattle.std.proofs.Common.{arith, refl}
 use Rattle.data_url.proofs.escapes.{Reading.{spells_escape}, Walking.{ended_at, gathers_byte, gathers_then}}
 use Rattle.data_url.proofs.escapes.cursor.Cursor.gather_mark.Goals as goal
 
-pub returns-else-is_followed-clause-gathers : goal.returns-else-is_followed-clause-gathers
-returns-else-is_followed-clause-gathers c =
+pub returns-else-wide-clause-gathers : goal.returns-else-wide-clause-gathers
+returns-else-wide-clause-gathers c =
     gathers_then (gathers_byte (grind arith) (spells_escape c.in-Escape.ensures.found.1).reads (grind arith))
     c.gather_escapes-len.ensures.gathers
 
-pub returns-then-is_followed-clause-gathers : goal.returns-then-is_followed-clause-gathers
-returns-then-is_followed-clause-gathers c =
+pub returns-then-wide-clause-gathers : goal.returns-then-wide-clause-gathers
+returns-then-wide-clause-gathers c =
     gathers_byte (grind arith) (spells_escape c.in-Escape.ensures.found.1).reads (grind arith)
 
 pub returns-in-End-clause-goes : goal.returns-in-End-clause-goes
