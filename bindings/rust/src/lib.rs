@@ -111,7 +111,7 @@ impl<'a> DataUrl<'a> {
     ///
     /// `NotADataUrl` if the text does not begin with `data:`, and `NoComma` if there is no comma before the fragment.
     pub fn process(input: &'a str) -> Result<Self, DataUrlError> {
-        match library::open(input, mime::Mime::from_parts) {
+        match library::open(input, mime::Mime::of_url) {
             Ok((mime_type, base64, encoded_body_plus_fragment)) => Ok(DataUrl {
                 input,
                 mime_type,

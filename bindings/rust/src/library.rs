@@ -181,16 +181,7 @@ fn text_of(bytes: &[u8]) -> &str {
 /// The parts of a MIME type: the type, the subtype, and the name and the value of each parameter. Each comes after its length.
 pub(crate) struct Parts<'a>(&'a [u8]);
 
-/// The parts of `text/plain;charset=US-ASCII`, the type of a URL without a header.
-const DEFAULT: &[u8; 56] = b"\x04\0\0\0\0\0\0\0text\x05\0\0\0\0\0\0\0plain\
-    \x07\0\0\0\0\0\0\0charset\x08\0\0\0\0\0\0\0US-ASCII";
-
 impl Parts<'_> {
-    /// Whether the type is that of a URL without a header.
-    pub(crate) fn is_default(&self) -> bool {
-        self.0 == DEFAULT
-    }
-
     pub(crate) fn is_empty(&self) -> bool {
         self.0.is_empty()
     }
@@ -220,15 +211,24 @@ fn refusal(status: u32) -> u32 {
     status
 }
 
-/// Opens a URL: the result of `read` for its MIME type, whether its body is base64, and the text after its comma.
-pub(crate) fn open<T>(url: &str, read: impl Fn(Parts<'_>) -> T) -> Result<(T, bool, &str), u32> {
+/// Opens a URL: the result of `read` for its MIME type, whether its body is base64, and the text after its comma. Where the URL
+/// begins with `data:,`, so that it has no header, `read` gets no parts: that is common, and they are known.
+pub(crate) fn open<T>(
+    url: &str,
+    read: impl Fn(Option<Parts<'_>>) -> T,
+) -> Result<(T, bool, &str), u32> {
     written(
         // The bytes of a `str` are UTF-8.
         |out, room| unsafe { dataurl_open_parts_utf8(url.as_ptr(), url.len(), out, room) },
         |opened| (opened.status, opened.len),
         |opened, parts| {
             let tail = &url[opened.tail..opened.tail + opened.tail_len];
-            (read(Parts(parts)), opened.is_base64, tail)
+            let parts = if opened.tail == "data:,".len() {
+                None
+            } else {
+                Some(Parts(parts))
+            };
+            (read(parts), opened.is_base64, tail)
         },
     )
 }

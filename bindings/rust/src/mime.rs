@@ -54,12 +54,18 @@ impl Mime {
         }
     }
 
+    /// Makes the MIME type of a URL, of the parts that the library returns if it has a header.
+    #[inline(always)]
+    pub(crate) fn of_url(parts: Option<Parts<'_>>) -> Mime {
+        match parts {
+            Some(parts) => Mime::from_parts(parts),
+            None => Mime::of_no_header(),
+        }
+    }
+
     /// Makes a MIME type of the parts that the library returns.
     #[inline(always)]
-    pub(crate) fn from_parts(mut parts: Parts<'_>) -> Mime {
-        if parts.is_default() {
-            return Mime::of_no_header();
-        }
+    fn from_parts(mut parts: Parts<'_>) -> Mime {
         let (type_, subtype) = parts.next_pair();
         let mut parameters = Vec::with_capacity(!parts.is_empty() as usize);
         while !parts.is_empty() {
