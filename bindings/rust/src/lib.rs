@@ -228,8 +228,9 @@ impl FragmentIdentifier<'_> {
     /// Returns the fragment as the URL parser leaves it, percent-encoded.
     /// <https://url.spec.whatwg.org/#fragment-state>
     pub fn to_percent_encoded(&self) -> String {
-        // The library encodes the fragments of URLs. A fragment has no white space at its end, so nothing is trimmed here.
-        let url = ["data:,#", self.0].concat();
+        // The library encodes the fragments of URLs. A fragment has no white space at its end, so nothing is trimmed here. With
+        // this header, the library makes a short record, without parameters.
+        let url = ["data:a/b,#", self.0].concat();
         match library::fragment(&url, str::to_owned) {
             Ok(encoded) => encoded,
             Err(status) => unreachable!("status {}", status),
