@@ -137,8 +137,8 @@ where
         Ok(at)
     }
 
-    /// Calls the closure with the bytes of the groups before the first fault of a text. Returns the place of the fault and its kind,
-    /// or the length of the text.
+    /// Calls the closure with the bytes of the groups before a text's first fault. Returns its place and kind, or the text's length.
+    #[inline(always)]
     fn read(&mut self, text: &[u8]) -> Result<(usize, Option<InvalidBase64Details>), DecodeError<E>>
         requires callable { F.IsAlwaysCallable (state_of self.old).closure }
         requires going { (state_of self.old).failed ≡ false }
