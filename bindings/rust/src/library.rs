@@ -211,8 +211,8 @@ fn refusal(status: u32) -> u32 {
     status
 }
 
-/// Opens a URL: the result of `read` for its MIME type, whether its body is base64, and the text after its comma. Where the URL
-/// begins with `data:,`, so that it has no header, `read` gets no parts: that is common, and they are known.
+/// Opens a URL: the result of `read` for its MIME type, whether its body is base64, and the text after its comma. `read` gets no
+/// parts if the URL begins with `data:,` in any case: it has no header then, and its type is the default one.
 pub(crate) fn open<T>(
     url: &str,
     read: impl Fn(Option<Parts<'_>>) -> T,
@@ -223,11 +223,9 @@ pub(crate) fn open<T>(
         |opened| (opened.status, opened.len),
         |opened, parts| {
             let tail = &url[opened.tail..opened.tail + opened.tail_len];
-            let parts = if opened.tail == "data:,".len() {
-                None
-            } else {
-                Some(Parts(parts))
-            };
+            // A URL that was opened has the five bytes of the scheme, at least, before its first comma.
+            let has_header = url.as_bytes()[5] != b',';
+            let parts = if has_header { Some(Parts(parts)) } else { None };
             (read(parts), opened.is_base64, tail)
         },
     )

@@ -44,7 +44,7 @@ impl Mime {
         Some(value)
     }
 
-    /// Makes the type of a URL without a header, which is common, of constants.
+    /// Returns the type of a URL without a header.
     #[inline(never)]
     fn of_no_header() -> Mime {
         Mime {
@@ -54,16 +54,13 @@ impl Mime {
         }
     }
 
-    /// Makes the MIME type of a URL, of the parts that the library returns if it has a header.
+    /// Returns the MIME type of a URL, from its parts, or the default one.
     #[inline(always)]
     pub(crate) fn of_url(parts: Option<Parts<'_>>) -> Mime {
-        match parts {
-            Some(parts) => Mime::from_parts(parts),
-            None => Mime::of_no_header(),
-        }
+        parts.map_or_else(Mime::of_no_header, Mime::from_parts)
     }
 
-    /// Makes a MIME type of the parts that the library returns.
+    /// Returns the MIME type with these parts.
     #[inline(always)]
     fn from_parts(mut parts: Parts<'_>) -> Mime {
         let (type_, subtype) = parts.next_pair();

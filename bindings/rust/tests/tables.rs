@@ -22,7 +22,7 @@ const EXCLAMATION: &str = "base64 not valid: symbol with codepoint 33 not expect
 /// Texts, their printed records, the bytes of their bodies before the first fault, and the message of the error, or `#` and
 /// the fragment, or nothing.
 #[rustfmt::skip]
-const URLS: [[&str; 4]; 60] = [
+const URLS: [[&str; 4]; 62] = [
     ["data:,Hello%20World!", DEFAULT, "Hello World!", ""],
     ["\0 DA\tTA:\n,x \u{1f}", DEFAULT, "x", ""],
     ["da ta:,x", "", "", NO_SCHEME],
@@ -34,6 +34,8 @@ const URLS: [[&str; 4]; 60] = [
     ["data:,", DEFAULT, "", ""],
     ["DATA:,x", DEFAULT, "x", ""],
     ["data:text/plain;charset=US-ASCII,x", DEFAULT, "x", ""],
+    ["data:;,x", "text/plain", "x", ""],
+    ["data:a/b,", "a/b", "", ""],
     ["data:,%4\t1", DEFAULT, "A", ""],
     ["data:,%zz%4", DEFAULT, "%zz%4", ""],
     ["data:,%%34\n1", DEFAULT, "%41", ""],

@@ -28,7 +28,7 @@ fn split_last_space<'a>(path: &'a [u8], query: &[u8]) -> (&'a [u8], &'static str
     (&path[..end - 1], "%20")
 }
 
-/// Returns the text of a header, serialised. Room is allocated once for a header of at most one part, whatever is encoded.
+/// Returns the text of a header, serialised. Room is allocated once for a header of at most 128 bytes; for a longer one it may grow.
 #[inline(never)]
 #[tactic(auto, using(crate::proofs::header::Serialising::serialising))]
 fn serialised(alloc: Global, header: &[u8]) -> Result<String, AllocError>

@@ -90,7 +90,7 @@ fn clear_places(eight: usize) -> (u8x16, usize)
     (row(&PLACES, 8 * eight), 8 - eight.count_ones() as usize)
 }
 
-/// Writes the bytes of a row whose bits are 0 at a place. Returns the place after them. Up to sixteen more may be overwritten.
+/// Writes the bytes of a row whose bits are 0 at a place. Returns the place after them. Sixteen bytes from there may be overwritten.
 #[inline(always)]
 pub(crate) fn pack_row(row: u8x16, dropped: usize, bytes: &mut [u8], at: usize) -> usize
     requires bits { dropped < 65536 }

@@ -22,7 +22,7 @@ pub(crate) enum EncodeSet {
     Fragment,
 }
 
-/// How many bytes are tested at most before they are copied, so that the processor's first cache holds them.
+/// How many bytes are tested at most before they are copied, so that they are still in the processor's first cache then.
 const STRETCH: usize = 16 * 1024;
 
 /// How many bytes are encoded by the table at a time.
@@ -31,8 +31,8 @@ pub(crate) const PART: usize = 128;
 /// The size of the buffer, in bytes: more than a part is written as.
 const BUFFER_LEN: usize = 512;
 
-/// Returns what the next part is written as, without its tabs and newlines and percent-encoded, and the bytes after the part. A
-/// stretch that is written as it is, is a part if it is long or at least half of what is left.
+/// Returns the next bytes as they are written, without tabs and newlines and percent-encoded, and the bytes after them. At least 64
+/// bytes, or half of what is left, are returned as they are if they are written so. Otherwise at most 128 bytes are encoded.
 #[inline(always)]
 fn encode_next<'a: 'r, 'r>(
     set: EncodeSet,

@@ -104,8 +104,8 @@ impl<'a> Cursor<'a> {
         })
     }
 
-    /// Gathers the rest of the block that was read, after the bytes that were gathered before. If it is `wide`, another
-    /// one follows it, and whole blocks are copied. Otherwise escapes that follow one another are gathered without a look for marks.
+    /// Gathers the rest of the block that was read, after the bytes that were gathered before. If the block is `wide`, another one
+    /// follows it, and 64 bytes are copied at a time. Otherwise escapes that follow one another are gathered without a look for marks.
     #[inline(always)]
     fn gather_block(&mut self, room: &mut Buffer, len: usize, wide: bool) -> usize
         requires may { MayGather self.old len }

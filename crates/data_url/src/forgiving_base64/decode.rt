@@ -137,7 +137,7 @@ where
         Ok(at)
     }
 
-    /// Calls the closure with the bytes of the groups before a text's first fault. Returns its place and kind, or the text's length.
+    /// Calls the closure with the bytes of the groups before a text's first fault. Returns the fault's place and kind, or the length.
     #[inline(always)]
     fn read(&mut self, text: &[u8]) -> Result<(usize, Option<InvalidBase64Details>), DecodeError<E>>
         requires callable { F.IsAlwaysCallable (state_of self.old).closure }
