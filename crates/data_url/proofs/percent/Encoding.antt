@@ -298,14 +298,15 @@ kept_whole p (b ∷ s) h =
 pub first_bytes : (s : List ℕ) (n : ℕ) → ((i : ℕ) → get_or s i 0 < 256) → (i : ℕ) → get_or (take n s) i 0 < 256
 first_bytes s n h i = let byte = h i in grind (arith, cases_lt i n, get_or-take, get_or_past, length-take)
 
--- the bytes before the first marked one of a stretch at the start of a text are written as they are
-pub kept_front : (p : ℕ → Bool) (others s : List ℕ) (m n : ℕ)
+-- bytes at the start of a text that come before the first marked one of a stretch are written as they are
+pub kept_front : (p : ℕ → Bool) (others s x : List ℕ) (m n : ℕ)
     → ((b : ℕ) → b < 256 → is_marked others b ≡ false → byte_encoding p b ≡ b ∷ []) → ((i : ℕ) → get_or s i 0 < 256)
-    → n ≤ length (take m s) → AreOf others (take m s) n → take n s ≡ encoded p (take n s)
-kept_front p others s m n as_is bytes l unmarked = kept_whole p (take n s) (λ k w.
-    let within : k < n = omega (arith, w, length-take n s) in
-    let read = get_or-take m s k 0 (omega (arith, within, l, length-take m s)) in
-    rw (get_or-take n s k 0 within) (as_is (get_or s k 0) (bytes k) (rw read at (unmarked k within))))
+    → n ≤ length (take m s) → AreOf others (take m s) n → x ≡ take (length x) s → length x ≤ n
+    → x ≡ encoded p x
+kept_front p others s x m n as_is bytes l unmarked front few = kept_whole p x (λ k w.
+    let read = get_or-take m s k 0 (omega (arith, w, few, l, length-take m s)) in
+    let same = ap (λ t. get_or t k 0) front ∙ get_or-take (length x) s k 0 w in
+    rw same (as_is (get_or s k 0) (bytes k) (rw read at (unmarked k (omega (arith, w, few))))))
 
 -- the byte is written as it is in a path, and is none of '#', ',' and '?'
 pub record Plain (b : ℕ) : Type 0 where

@@ -1,25 +1,31 @@
-use Rattle.std.proofs.Common.{arith, drop, get_or, take, take_all, take-append-drop, ℕ, ◌<◌}
+use Rattle.std.proofs.Common.{arith, drop, get_or, length, subst, sym, take, take_all, take-append-drop, ℕ, ◌<◌, ◌≡◌}
 use Rattle.data_url.specs.Steps.Sets.{in_set}
 use Rattle.data_url.proofs.percent.Encoding.{encoded-append, encoded_text, first_bytes, kept_front, put_more}
 use Rattle.data_url.proofs.percent.encode_next.Goals as goal
 
 pub returns-then-kept-part-clause-written : goal.returns-then-kept-part-clause-written
 returns-then-kept-part-clause-written c =
+    let p = in_set c.args.set in
     let text = c.args.bytes.now in
-    let n = c.rows_len.result in
-    let kept = kept_front (in_set c.args.set) c.others.result text c.min-2.result n c.others.ensures
-    (λ i. omega (arith, c.type_inv.bytes i)) c.rows_len.ensures.within c.rows_len.ensures.prefix in
-    let joined = encoded-append (in_set c.args.set) (take n text) (drop n text) in
-    cc (c.split_at-2.ensures.front, c.split_at-2.ensures.back, kept, joined, take-append-drop n text)
+    let kept = c.split_at-2.result.0.now in
+    let cut = c.split_at-2.ensures in
+    let as_is = kept_front p c.others.result text kept c.min-2.result c.rows_len.result c.others.ensures
+    (λ i. omega (arith, c.type_inv.bytes i)) c.rows_len.ensures.within c.rows_len.ensures.prefix
+    (cc (cut.front, cut.front_len)) (omega (arith, cut.front_len)) in
+    cc (as_is, cut.front, cut.front_len, cut.back, encoded-append p kept (drop (length kept) text),
+        take-append-drop (length kept) text)
 
 pub returns-then-kept-part-clause-text : goal.returns-then-kept-part-clause-text
 returns-then-kept-part-clause-text c =
     let text = c.args.bytes.now in
-    let n = c.rows_len.result in
+    let kept = c.split_at-2.result.0.now in
+    let cut = c.split_at-2.ensures in
     let bytes : (i : ℕ) → get_or text i 0 < 256 = λ i. omega (arith, c.type_inv.bytes i) in
-    let kept = kept_front (in_set c.args.set) c.others.result text c.min-2.result n c.others.ensures bytes
-    c.rows_len.ensures.within c.rows_len.ensures.prefix in
-    rw c.split_at-2.ensures.front (encoded_text c.args.set (take n text) (take n text) (first_bytes text n bytes) kept)
+    let front : kept ≡ take (length kept) text = cc (cut.front, cut.front_len) in
+    let as_is = kept_front (in_set c.args.set) c.others.result text kept c.min-2.result c.rows_len.result c.others.ensures
+    bytes c.rows_len.ensures.within c.rows_len.ensures.prefix front (omega (arith, cut.front_len)) in
+    let small = subst (λ x. (i : ℕ) → get_or x i 0 < 256) (sym front) (first_bytes text (length kept) bytes) in
+    encoded_text c.args.set kept kept small as_is
 
 pub loop-byte-preserved : goal.loop-byte-preserved
 loop-byte-preserved c = rw c.from-at.ensures (put_more _ _ _ _ _ _ _ c.loop-byte.invariant c.loop-byte-test.true
