@@ -115,7 +115,8 @@ where
     F: FnMut(&[u8]) -> Result<(), Infallible>,
     requires callable { F.IsAlwaysCallable write.old }
     requires good { is_good_state state.now ≡ true }
-    ensures { GetsGroups (CalledAt F.FnMut) write.old (waiting_text state.now ++ text.now) result write.new }
+    ensures { GetsGroups (CalledAt F.FnMut) write.old (waiting_text state.now ++ text.now)
+        result write.new }
 {
     let (waiting, len) = waiting_text(state);
     let mut decoder = Decoder::new(|piece: &[u8]| -> Result<(), Infallible> { write(piece) });
@@ -204,8 +205,8 @@ fn last_symbols(state: &DataUrlBase64, text: &[u8], count: usize) -> [u8; 3]
     requires few { count ≤ 3 }
     requires good { is_good_state state.now ≡ true }
     requires same { count ≡ (state.now.pending + length (filter is_symbol text.now) % 4) % 4 }
-    ensures { (front : List ℕ) × (take state.now.pending state.now.symbols ++ filter is_symbol text.now
-        ≡ front ++ take count result) }
+    ensures { (front : List ℕ) × (take state.now.pending state.now.symbols
+        ++ filter is_symbol text.now ≡ front ++ take count result) }
 {
     let mut symbols = state.symbols;
     let mut missing = count;

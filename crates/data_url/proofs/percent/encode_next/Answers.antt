@@ -12,8 +12,14 @@ returns-then-kept-part-clause-written c =
     let as_is = kept_front p c.others.result text kept c.min-2.result c.rows_len.result c.others.ensures
     (λ i. omega (arith, c.type_inv.bytes i)) c.rows_len.ensures.within c.rows_len.ensures.prefix
     (cc (cut.front, cut.front_len)) (omega (arith, cut.front_len)) in
-    cc (as_is, cut.front, cut.front_len, cut.back, encoded-append p kept (drop (length kept) text),
-        take-append-drop (length kept) text)
+    cc (
+      as_is,
+      cut.front,
+      cut.front_len,
+      cut.back,
+      encoded-append p kept (drop (length kept) text),
+      take-append-drop (length kept) text,
+    )
 
 pub returns-then-kept-part-clause-text : goal.returns-then-kept-part-clause-text
 returns-then-kept-part-clause-text c =
