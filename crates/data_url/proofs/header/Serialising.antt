@@ -114,18 +114,18 @@ too_near x q l = no_word (x ++ 63 ∷ q) (λ e.
     grind arith)
 
 -- what the suffix depends on
-abbrev after_mark : Option (List ℕ) → Bool
-after_mark None = false
-after_mark (Some m) = bytes_eq (last_bytes 1 (63 ∷ without_end is_space m)) (codes ";")
+abbrev after_char : Option (List ℕ) → Bool
+after_char None = false
+after_char (Some m) = bytes_eq (last_bytes 1 (63 ∷ without_end is_space m)) (codes ";")
 
 -- if "base64" comes after a '?', whether there is a suffix does not depend on what is before the '?'
 by_word : (x : List ℕ) (o : Option (List ℕ)) → is_some (option_and_then (λ m. before_semicolon (without_end is_space m))
-    (option_map (λ m. (x ++ 63 ∷ []) ++ m) o)) ≡ after_mark o
+    (option_map (λ m. (x ++ 63 ∷ []) ++ m) o)) ≡ after_char o
 by_word x None = refl
 by_word x (Some m) = grind (arith, append_assoc, end_after, last_after)
 
 -- if at least six bytes follow a '?', whether there is a base64 suffix depends only on these bytes
-suffix_after : (x q : List ℕ) → 6 ≤ length q → is_some (before_base64 (x ++ 63 ∷ q)) ≡ after_mark (before_word q)
+suffix_after : (x q : List ℕ) → 6 ≤ length q → is_some (before_base64 (x ++ 63 ∷ q)) ≡ after_char (before_word q)
 unfolding before_base64
 suffix_after x q l = cc (append_assoc x (63 ∷ []) q, word_after (x ++ 63 ∷ []) q l, by_word x (before_word q))
 

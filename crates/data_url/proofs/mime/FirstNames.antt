@@ -24,7 +24,7 @@ use Rattle.data_url.specs.Mime.{has_distinct_names, IsRecordOfParts, has_name, B
 use Rattle.data_url.specs.Mime.{first_of_each_name, is_lowercase_name, is_token_text, kept_pairs, valid_of, valid_pairs}
 use Rattle.data_url.specs.{Mime.{HasNoRecord, IsHead, IsWellformed}, MimeType.{pair_of, code_points}}
 use Rattle.data_url.specs.Steps.Kept.{first_of, fingerprint_of, pairs_of, AreFingerprints, HasLaterNames, IsIndexed}
-use Rattle.data_url.specs.Steps.{Kept.{letter_at}, Parsing.{HasLowercaseNames, added_pairs, after_mark, item_in}}
+use Rattle.data_url.specs.Steps.{Kept.{letter_at}, Parsing.{HasLowercaseNames, added_pairs, after_char, item_in}}
 use Rattle.data_url.specs.Steps.Parsing.{pair_if, reading_in, unless_named, HasNoHead}
 use Rattle.data_url.specs.declared.mime.kept.KeptParameters.{KeptParameters}
 use Rattle.data_url.proofs.mime.{Items.{has_items, has_parameter, items_are, items_in, rest_shorter}, Parsing.{mark_is}}
@@ -270,7 +270,7 @@ pub record KeepsOn (whole rest : List ℕ) (pairs : List Pair) : Type 0 where
 
 -- if the rest begins with a parameter, and the pairs get what its item adds, `KeepsOn` is true of what follows
 pub keeps_more : {whole rest s rest' : List ℕ} {pairs pairs' pair : List Pair} → KeepsOn whole rest pairs
-    → after_mark 59 rest ≡ Some s → pair ≡ valid_of (item_in s) → rest' ≡ (reading_in s).rest
+    → after_char 59 rest ≡ Some s → pair ≡ valid_of (item_in s) → rest' ≡ (reading_in s).rest
     → pairs' ≡ pairs ++ unless_named pairs pair → KeepsOn whole rest' pairs'
 keeps_more {whole} {rest} {s} {pairs = pairs} k e p r a =
     let next = (reading_in s).rest in
@@ -283,7 +283,7 @@ keeps_more {whole} {rest} {s} {pairs = pairs} k e p r a =
 
 -- if the rest does not begin with ';', the pairs are those that are kept of the items of the whole text
 pub keeps_end : {whole rest : List ℕ} {pairs : List Pair} → KeepsOn whole rest pairs → BeginsParameters whole
-    → after_mark 59 rest ≡ None → (items : List Item) × Items whole items × (pairs ≡ kept_pairs items)
+    → after_char 59 rest ≡ None → (items : List Item) × Items whole items × (pairs ≡ kept_pairs items)
 keeps_end {whole} {rest = []} {pairs = pairs} k w e = grind (arith, items_in, has_items, append-nil)
 keeps_end {rest = c ∷ rest} k w e = grind arith
 

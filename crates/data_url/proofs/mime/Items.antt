@@ -6,7 +6,7 @@ use Rattle.std.proofs.Common.{Option, true, None}
 use Rattle.std.specs.List.{prefix_len}
 use Rattle.data_url.specs.{CodePoints.{is_http_whitespace, is_token}, Mime.{BeginsParameters, DoesNotBegin, Every}}
 use Rattle.data_url.specs.Mime.{GivesValue, IsParameter, Item, Items, is_quote, lone_equals, nothing, plain, quoted}
-use Rattle.data_url.specs.{Mime.{unclosed, unless_empty, IsHead}, Steps.Parsing.{Reading, after_mark, front_of}}
+use Rattle.data_url.specs.{Mime.{unclosed, unless_empty, IsHead}, Steps.Parsing.{Reading, after_char, front_of}}
 use Rattle.data_url.specs.Steps.Parsing.{given_reading, in_name, in_value, item_in, named, plain_reading}
 use Rattle.data_url.specs.{Steps.Parsing.{quoted_reading, reading, reading_in}, Url.{without_end, without_start}}
 use Rattle.data_url.proofs.{facts.Definitions.{HasOneItemList, HasAtMostOneRecord}, mime.TokenTexts.{IsRead}}
@@ -30,10 +30,10 @@ not_begins_append p (c ∷ a) b h e = h
 
 -- the reading of a text after a name
 abbrev pub reading_of : List ℕ → Reading
-reading_of x = reading x (after_mark 61 x)
+reading_of x = reading x (after_char 61 x)
 
 -- a text that does not begin with '"' has no text after it
-no_quote : (s : List ℕ) → DoesNotBegin is_quote s → after_mark 34 s ≡ None
+no_quote : (s : List ℕ) → DoesNotBegin is_quote s → after_char 34 s ≡ None
 no_quote [] d = refl
 no_quote (c ∷ s) d = grind arith
 
@@ -222,7 +222,7 @@ gap_no_token (c ∷ gap) r g b = grind (arith, eqb-true)
 -- the parts that are read from t
 pub record HasParts (t type_ subtype parameters : List ℕ) : Type 0 where
   pub type_is : type_in t ≡ type_
-  pub slash : after_mark 47 (without_start is_token t) ≡ Some (after_slash t)
+  pub slash : after_char 47 (without_start is_token t) ≡ Some (after_slash t)
   pub subtype_is : subtype_in t ≡ subtype
   pub parameters_are : parameters_in t ≡ parameters
 

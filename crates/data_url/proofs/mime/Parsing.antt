@@ -11,7 +11,7 @@ use Rattle.data_url.specs.{CodePoints.{is_http_whitespace, is_quotable, is_token
 use Rattle.data_url.specs.Mime.{Every, unless_empty, BeginsParameters, IsHead, is_token_text, valid_of}
 use Rattle.data_url.specs.Steps.Parsing.{DoesNotEnd, front_of, in_value, is_escaped, is_quotable_byte, is_unquoted_byte}
 use Rattle.data_url.specs.Steps.Parsing.{item_in, named, pair_if, reading, reading_in, IsTrimmedEnd, quotable_value}
-use Rattle.data_url.specs.Steps.Parsing.{unescaped, HasNoHead, IsTokens, after_mark, in_name}
+use Rattle.data_url.specs.Steps.Parsing.{unescaped, HasNoHead, IsTokens, after_char, in_name}
 use Rattle.data_url.proofs.{examples.Literals.{on_literals}, texts.CodePoints.{same_empty, trimmed_end_is, IsCutInto}}
 use Rattle.data_url.proofs.{texts.CodePoints.{IsSteady, cut_front, front_further, front_passes}, mime.Items.{has_parts}}
 use Rattle.data_url.proofs.{mime.{Items.{trimmed_of}, TokenTexts.{values_steady, whole_front}}, runs.Runs.{match_map}}
@@ -125,22 +125,22 @@ pub ruleset plain_values = (cut_plain, no_value, some_value)
 
 -- if the bytes of a text begin with those of c, its code points begin with c
 pub has_mark : (bs rest : List ℕ) (c n : ℕ) → IsUtf8 bs → HasCharAt c bs 0 n → rest ≡ drop n bs
-    → after_mark c (chars bs) ≡ Some (chars rest)
+    → after_char c (chars bs) ≡ Some (chars rest)
 has_mark bs rest c n u h e = grind (arith, chars_past_char bs (drop n bs) c u h.split)
 
 -- if the bytes of a text do not begin with those of c, its code points do not begin with c
 pub no_mark : (cs : List ℕ) (c : ℕ) → ((rest : List ℕ) → encode_utf8_all cs ≡ encode_utf8 c ++ rest → ⊥)
-    → after_mark c cs ≡ None
+    → after_char c cs ≡ None
 no_mark [] c n = refl
 no_mark (b ∷ cs) c n = grind (arith, eqb-true, n (encode_utf8_all cs))
 
 -- if a text is not empty and does not begin with ';', it does not begin parameters
-not_begins : (s : List ℕ) → after_mark 59 s ≡ None → (length s == 0) ≡ false → BeginsParameters s → ⊥
+not_begins : (s : List ℕ) → after_char 59 s ≡ None → (length s == 0) ≡ false → BeginsParameters s → ⊥
 not_begins [] e n b = absurd (cc)
 not_begins (c ∷ s) e n b = absurd (grind arith)
 
 -- a text that begins with ';' begins parameters
-pub begins_mark : (s rest : List ℕ) → after_mark 59 s ≡ Some rest → BeginsParameters s
+pub begins_mark : (s rest : List ℕ) → after_char 59 s ≡ Some rest → BeginsParameters s
 begins_mark [] rest e = tt
 begins_mark (c ∷ s) rest e = grind arith
 
@@ -150,7 +150,7 @@ begins_empty [] h = tt
 begins_empty (c ∷ s) h = absurd (grind arith)
 
 -- a text that begins with c is c and the rest
-pub mark_is : (c : ℕ) (s rest : List ℕ) → after_mark c s ≡ Some rest → s ≡ c ∷ rest
+pub mark_is : (c : ℕ) (s rest : List ℕ) → after_char c s ≡ Some rest → s ≡ c ∷ rest
 mark_is c [] rest e = absurd (cc)
 mark_is c (b ∷ s) rest e = grind (arith, eqb-true)
 
@@ -165,10 +165,10 @@ no_type s t e z a b c h = grind (arith, has_parts, token_not_nil)
 
 module _ {s t a x : List ℕ} (first : IsTokens t a x) (e : t ≡ trimmed_of is_http_whitespace s) where
   -- if the text after the type does not begin with '/', there is no head
-  pub no_slash : after_mark 47 x ≡ None → HasNoHead s
+  pub no_slash : after_char 47 x ≡ None → HasNoHead s
   no_slash z a' b c h = let p = has_parts s a' b c h in absurd (cc (p.slash, first.after))
 
-  module _ (y : List ℕ) (slash : after_mark 47 x ≡ Some y) where
+  module _ (y : List ℕ) (slash : after_char 47 x ≡ Some y) where
     -- if the subtype is empty, there is no head
     pub no_subtype : front_of is_token y ≡ [] → HasNoHead s
     no_subtype z a' b c h = grind (arith, has_parts s a' b c h, token_not_nil, mark_is)
@@ -176,7 +176,7 @@ module _ {s t a x : List ℕ} (first : IsTokens t a x) (e : t ≡ trimmed_of is_
     module _ {b z : List ℕ} (bs : List ℕ) (second : IsTokens y b z) (r : chars bs
         ≡ without_start is_http_whitespace z) where
       -- if the text after the subtype and HTTP whitespace is not empty and does not begin with ';', there is no head
-      pub no_parameters : (length (chars bs) == 0) ≡ false → after_mark 59 (chars bs) ≡ None → HasNoHead s
+      pub no_parameters : (length (chars bs) == 0) ≡ false → after_char 59 (chars bs) ≡ None → HasNoHead s
       no_parameters n m a' b' c h = grind (arith, has_parts s a' b' c h, mark_is, not_begins)
 
       -- if that text is empty or begins with ';', the parts are the head
@@ -185,7 +185,7 @@ module _ {s t a x : List ℕ} (first : IsTokens t a x) (e : t ≡ trimmed_of is_
 
 -- the pair and the rest that are read from a text that is cut after a name
 pub parameter_by : (s t front after : List ℕ) {o : Option (List ℕ)} → chars front ≡ front_of in_name (chars t)
-    → chars after ≡ without_start in_name (chars t) → chars t ≡ named s → after_mark 61 (chars after) ≡ o
+    → chars after ≡ without_start in_name (chars t) → chars t ≡ named s → after_char 61 (chars after) ≡ o
     → (value : Option (List ℕ)) → value ≡ quotable_value (reading (chars after) o).value
     → (pair_if (map to_ascii_lowercase (chars front)) value ≡ valid_of (item_in s))
     × ((reading (chars after) o).rest ≡ (reading_in s).rest)

@@ -38,9 +38,9 @@ pub record IsTrimmedEnd (p : ℕ → Bool) (s t : List ℕ) : Type 0 where
   pub ends : DoesNotEnd p t
 
 -- the text after c, if the text begins with c
-abbrev pub after_mark : ℕ → List ℕ → Option (List ℕ)
-after_mark c [] = None
-after_mark c (b ∷ s) = if b == c then Some s else None
+abbrev pub after_char : ℕ → List ℕ → Option (List ℕ)
+after_char c [] = None
+after_char c (b ∷ s) = if b == c then Some s else None
 
 -- the code point does not end a value
 abbrev pub in_value : ℕ → Bool
@@ -99,7 +99,7 @@ reading_from s (Some quoted) = quoted_reading quoted
 
 -- the value in the text after a '='
 abbrev pub given_reading : List ℕ → Reading
-given_reading s = reading_from s (after_mark 34 s)
+given_reading s = reading_from s (after_char 34 s)
 
 -- the value in the text after a name, from the text after its '=' if it begins with one
 abbrev pub reading : List ℕ → Option (List ℕ) → Reading
@@ -112,7 +112,7 @@ named s = without_start is_http_whitespace s
 
 -- the value of a parameter and the text after it, from the text after its ';'
 abbrev pub reading_in : List ℕ → Reading
-reading_in s = reading (without_start in_name (named s)) (after_mark 61 (without_start in_name (named s)))
+reading_in s = reading (without_start in_name (named s)) (after_char 61 (without_start in_name (named s)))
 
 -- the item of a parameter, from the text after its ';'
 abbrev pub item_in : List ℕ → Item

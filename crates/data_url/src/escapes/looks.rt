@@ -8,15 +8,15 @@ use std::snapshot::Snapshot;
 
 /// A look at a number of bytes, and the looks before it.
 #[derive(Drop)]
-struct Mark {
+struct Look {
     bytes: usize,
-    before: Option<Snapshot<Mark>>,
+    before: Option<Snapshot<Look>>,
 }
 
 /// How many bytes were examined: a number without an upper bound, which only contracts see.
 #[derive(Drop)]
 pub(super) struct Looks {
-    last: Snapshot<Mark>,
+    last: Snapshot<Look>,
 }
 
 const _: () = prove!(size_of::<Looks>() == 0);
@@ -36,7 +36,7 @@ impl Looks {
     pub(super) fn new() -> Looks
         ensures { result ≡ 0 }
     {
-        let first = Mark {
+        let first = Look {
             bytes: 0,
             before: None,
         };
@@ -51,7 +51,7 @@ impl Looks {
         ensures { self.new ≡ self.old + bytes }
     {
         let before = Some(replace(&mut self.last, Looks::new().last));
-        let mark = Mark { bytes, before };
-        self.last = Snapshot::of(&mark);
+        let look = Look { bytes, before };
+        self.last = Snapshot::of(&look);
     }
 }

@@ -1,10 +1,10 @@
-//! Where texts are cut: at HTTP whitespace, at marks and after token code points (MIME Sniffing Standard, section 3).
+//! Where texts are cut: at HTTP whitespace, at a character and after token code points (MIME Sniffing Standard, section 3).
 #![tactic(auto, using(crate::proofs::mime::Parsing::cuts))]
 
 ghost use Rattle.std.specs.{Prelude.{◌≡◌, [], None, Some, MatchOption, length, take}, Str.{chars}};
 ghost use Rattle.data_url.specs.{CodePoints.{is_http_whitespace, is_token}, Mime.{is_token_text}};
 ghost use Rattle.data_url.specs.Url.{without_end, without_start};
-ghost use Rattle.data_url.specs.Steps.Parsing.{IsTokens, IsTrimmedEnd, after_mark, front_of, in_name, in_value};
+ghost use Rattle.data_url.specs.Steps.Parsing.{IsTokens, IsTrimmedEnd, after_char, front_of, in_name, in_value};
 
 use crate::classes::{Class, end_span, span};
 
@@ -26,11 +26,11 @@ pub(super) fn without_trailing_whitespace(text: &str) -> &str
 
 /// The text after a character, if the text begins with it.
 #[inline(always)]
-pub(super) fn after_mark(text: &str, mark: char) -> Option<&str>
-    ensures { MatchOption result (after_mark mark (chars text.now) ≡ None)
-        (λ rest. after_mark mark (chars text.now) ≡ Some (chars rest.now)) }
+pub(super) fn after_char(text: &str, c: char) -> Option<&str>
+    ensures { MatchOption result (after_char c (chars text.now) ≡ None)
+        (λ rest. after_char c (chars text.now) ≡ Some (chars rest.now)) }
 {
-    text.strip_prefix(mark)
+    text.strip_prefix(c)
 }
 
 /// The text from its first `;` on.

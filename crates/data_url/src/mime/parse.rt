@@ -9,7 +9,7 @@ ghost use Rattle.data_url.specs.{Steps.Kept.{IsIndexed, pairs_of}, MimeType.{pai
 
 use super::Mime;
 use super::cuts::{
-    after_mark, from_semicolon, split_name, split_tokens, without_leading_whitespace,
+    after_char, from_semicolon, split_name, split_tokens, without_leading_whitespace,
     without_trailing_whitespace,
 };
 use super::kept::{FINGERPRINTS_LEN, KeptParameters};
@@ -64,10 +64,10 @@ pub(crate) fn read_head(text: &str) -> Option<Head<'_>>
 {
     let text = without_trailing_whitespace(without_leading_whitespace(text));
     let (type_, rest) = split_tokens(text)?;
-    let (subtype, rest) = split_tokens(after_mark(rest, '/')?)?;
+    let (subtype, rest) = split_tokens(after_char(rest, '/')?)?;
     let parameters = without_leading_whitespace(rest);
     if !parameters.is_empty() {
-        after_mark(parameters, ';')?;
+        after_char(parameters, ';')?;
     }
     Some(Head {
         type_,
@@ -97,7 +97,7 @@ fn read_parameter(text: &str) -> Parameter<'_>
     ensures rest { chars result.rest.now ≡ (reading_in (chars text.now)).rest }
 {
     let (name, is_token, rest) = split_name(without_leading_whitespace(text));
-    let (value, rest) = match after_mark(rest, '=') {
+    let (value, rest) = match after_char(rest, '=') {
         Some(given) => read_value(given),
         None => (Value::Missing, rest),
     };
@@ -114,7 +114,7 @@ fn read_value(text: &str) -> (Value<'_>, &str)
     ensures value { value_of result.0 ≡ quotable_value (given_reading (chars text.now)).value }
     ensures rest { chars result.1.now ≡ (given_reading (chars text.now)).rest }
 {
-    let Some(quoted) = after_mark(text, '"') else {
+    let Some(quoted) = after_char(text, '"') else {
         return read_plain(text);
     };
     let (value, after) = split_quote(quoted);
@@ -183,7 +183,7 @@ pub(super) fn read_parameters(
         later_names: BTreeSet::new(alloc),
     };
     let mut rest = text;
-    while let Some(after) = after_mark(rest, ';') {
+    while let Some(after) = after_char(rest, ';') {
         let parameter = read_parameter(after);
         rest = parameter.rest;
         keep(alloc, &mut kept, &parameter)?;
