@@ -1,4 +1,4 @@
--- Percent-encoding with the rows of a table, and decoding of encoded texts. For `push_encoded`.
+-- Percent-encoding with the entries of a table, and decoding of encoded texts. For `push_encoded`.
 use Rattle.std.proofs.{lemmas.Grind.{common_steps, flat_map-append}, Common.{append_assoc, ◌≡◌, ℕ, ◌*◌, ◌+◌, ◌-◌, ◌<◌}}
 use Rattle.std.proofs.Common.{◌&&◌, ◌||◌, Bool, false, true, List, [], ◌∷◌, length, take, drop, refl, ◌/◌, ◌%◌, ◌++◌}
 use Rattle.std.proofs.Common.{Option, None, Some, sym, ap, ◌∙◌, inl, inr, length-take-le, take-take, subst, append-nil}
@@ -21,24 +21,24 @@ use Rattle.data_url.proofs.texts.Bytes.{dropped_keeps, dropped_nil, dropped_pass
 use Rattle.data_url.proofs.texts.Bytes.{first_byte, before-append, before_at, before_nil, before_other, before_same}
 use borrow.Rule.Slice.PartMut.{mid_of, put_mid, same_len_mid}
 
--- the row of a byte in a table
+-- the entry of a byte in a table
 abbrev pub entry_at : List ℕ → ℕ → List ℕ
-entry_at rows b = take (4 * b + 4 - 4 * b) (drop (4 * b) rows)
+entry_at entries b = take (4 * b + 4 - 4 * b) (drop (4 * b) entries)
 
--- the row has four bytes: the encoding of its byte at the start, and the length of that encoding at the end
+-- the entry has four bytes: the encoding of its byte at the start, and the length of that encoding at the end
 abbrev is_entry : (ℕ → Bool) → ℕ → List ℕ → Bool
-is_entry p b row = (length row == 4) && ((slice_index row 3 == length (byte_encoding p b)) && bytes_eq
-    (take (slice_index row 3) row) (byte_encoding p b))
+is_entry p b entry = (length entry == 4) && ((slice_index entry 3 == length (byte_encoding p b)) && bytes_eq
+    (take (slice_index entry 3) entry) (byte_encoding p b))
 
--- a list that passes `is_entry` is the row of its byte
-entry_of_test : (p : ℕ → Bool) (b : ℕ) (row : List ℕ) → is_entry p b row ≡ true → IsEntry p b row
-entry_of_test p b row h = grind (arith, eqb-true)
+-- a list that passes `is_entry` is the entry of its byte
+entry_of_test : (p : ℕ → Bool) (b : ℕ) (entry : List ℕ) → is_entry p b entry ≡ true → IsEntry p b entry
+entry_of_test p b entry h = grind (arith, eqb-true)
 
--- if each row of a table passes this test, each is the row of its byte
-pub row_by : (p : ℕ → Bool) (rows : List ℕ) → agree_below (λ b. is_entry p b (entry_at rows b)) (λ _. true) 256 ≡ true
-    → (b : ℕ) → b < 256 → IsEntry p b (entry_at rows b)
-row_by p rows h b l = entry_of_test p b (entry_at rows b) (agree_below_at (λ b. is_entry p b (entry_at rows b))
-    (λ _. true) 256 b h l)
+-- if each entry of a table passes this test, each is the entry of its byte
+pub entry_by : (p : ℕ → Bool) (entries : List ℕ)
+    → agree_below (λ b. is_entry p b (entry_at entries b)) (λ _. true) 256 ≡ true → (b : ℕ) → b < 256 → IsEntry p b (entry_at entries b)
+entry_by p entries h b l = entry_of_test p b (entry_at entries b)
+    (agree_below_at (λ b. is_entry p b (entry_at entries b)) (λ _. true) 256 b h l)
 
 -- if each byte is marked or written as it is, a byte without a mark is written as it is
 pub kept_where : (m p : ℕ → Bool) → agree_below (λ b. m b || bytes_eq (byte_encoding p b) (b ∷ [])) (λ _. true) 256
@@ -321,12 +321,12 @@ pub record PutTo (p : ℕ → Bool) (s : List ℕ) (i : ℕ) (room : List ℕ) (
   pub long : length room ≡ 512
   pub wrote : take at room ≡ encoded p (take i s)
 
--- if the row of byte i is put after them, so are the bytes before byte i + 1
-pub put_more : (p : ℕ → Bool) (s : List ℕ) (i : ℕ) (room : List ℕ) (at : ℕ) (row new : List ℕ) → PutTo p s i room at
-    → i < length s → at ≤ 512 → IsEntry p (get_or s i 0) row → length new ≡ length (mid_of at (at + 4 - at) room)
-    → new ≡ row → PutTo p s (i + 1) (put_mid at (at + 4 - at) room new) (at + slice_index row 3)
-put_more p s i room at row new m l within r n e =
-    let width = slice_index row 3 in
+-- if the entry of byte i is put after them, so are the bytes before byte i + 1
+pub put_more : (p : ℕ → Bool) (s : List ℕ) (i : ℕ) (room : List ℕ) (at : ℕ) (entry new : List ℕ) → PutTo p s i room at
+    → i < length s → at ≤ 512 → IsEntry p (get_or s i 0) entry → length new ≡ length (mid_of at (at + 4 - at) room)
+    → new ≡ entry → PutTo p s (i + 1) (put_mid at (at + 4 - at) room new) (at + slice_index entry 3)
+put_more p s i room at entry new m l within r n e =
+    let width = slice_index entry 3 in
     let room' = put_mid at (at + 4 - at) room new in
     let short : width ≤ 3 = grind arith in
     let one : encoded p (get_or s i 0 ∷ []) ≡ byte_encoding p (get_or s i 0) =
@@ -337,7 +337,7 @@ put_more p s i room at row new m l within r n e =
     let put = take-put_mid at (at + 4 - at) room new (at + 4) (omega (arith, ap length e, r.four))
     (omega (arith, m.long)) in
     let front = take-take (at + width) (at + 4) room' (omega arith) in
-    let seam = take-append-add (take at room) row width in
+    let seam = take-append-add (take at room) entry width in
     record { few = omega (arith, m.few); long = same_len_mid at (at + 4 - at) room new n ∙ m.long; wrote = cc }
 
 -- a text whose bytes are all below 128 is ASCII
