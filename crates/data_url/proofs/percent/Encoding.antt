@@ -35,10 +35,10 @@ entry_of_test : (p : ℕ → Bool) (b : ℕ) (entry : List ℕ) → is_entry p b
 entry_of_test p b entry h = grind (arith, eqb-true)
 
 -- if each entry of a table passes this test, each is the entry of its byte
-pub entry_by : (p : ℕ → Bool) (entries : List ℕ)
-    → agree_below (λ b. is_entry p b (entry_at entries b)) (λ _. true) 256 ≡ true → (b : ℕ) → b < 256 → IsEntry p b (entry_at entries b)
-entry_by p entries h b l = entry_of_test p b (entry_at entries b)
-    (agree_below_at (λ b. is_entry p b (entry_at entries b)) (λ _. true) 256 b h l)
+pub entry_by : (p : ℕ → Bool) (t : List ℕ) → agree_below (λ b. is_entry p b (entry_at t b)) (λ _. true) 256 ≡ true
+    → (b : ℕ) → b < 256 → IsEntry p b (entry_at t b)
+entry_by p t h b l = entry_of_test p b (entry_at t b) (agree_below_at (λ b. is_entry p b (entry_at t b))
+    (λ _. true) 256 b h l)
 
 -- if each byte is marked or written as it is, a byte without a mark is written as it is
 pub kept_where : (m p : ℕ → Bool) → agree_below (λ b. m b || bytes_eq (byte_encoding p b) (b ∷ [])) (λ _. true) 256
