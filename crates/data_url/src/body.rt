@@ -1,7 +1,7 @@
 //! Bodies: a closure is called with their bytes, piece by piece.
 
 ghost use Rattle.std.specs.{Prelude.{◌+◌, ◌≡◌, ◌≤◌, false, length, true}, Fn.{CalledAt}};
-ghost use Rattle.data_url.specs.Steps.{Chunks.{IsBodyPrefix, IsCallableUntilError, TakesRest}, Tail.{IsBodyEnd}};
+ghost use Rattle.data_url.specs.Steps.{Chunks.{IsBodyPrefix, IsCallableUntilError, TakesRest}, Holding.{FeedsUnescaped}, Tail.{IsBodyEnd}};
 ghost use Rattle.data_url.specs.{Fetch.{outcome, plain_body}, DataUrl.{Decodes}, Steps.Whole.{IsBodyInVec}};
 ghost use Rattle.data_url.specs.Decoder.{state_of};
 
@@ -11,6 +11,9 @@ use std::alloc::{AllocError, Global};
 
 /// The most room, in bytes of the text, that is allocated first for a body that is likely to be shorter than its text.
 const FIRST_ROOM: usize = 64 * 1024;
+
+/// How many bytes of a tail the decoder reads at once, at most.
+const STRETCH: usize = 4096;
 
 /// How many bytes of a long text are looked at before room is allocated for it.
 const PROBED: usize = 4 * 1024;
@@ -36,6 +39,30 @@ where
     Ok(pieces.end())
 }
 
+/// Decodes a tail up to its first `#` or `%`, stretch by stretch, so that a fault is found before much of the text after it is read.
+/// Returns the place of that byte, or the length of the tail.
+fn feed_front<F, E>(decoder: &mut Decoder<F, E>, tail: &[u8]) -> Result<usize, DecodeError<E>>
+where
+    F: FnMut(&[u8]) -> Result<(), E>,
+    requires callable { F.IsAlwaysCallable (state_of decoder.old).closure }
+    requires going { (state_of decoder.old).failed ≡ false }
+    ensures callable { F.IsAlwaysCallable (state_of decoder.new).closure }
+    ensures fed { FeedsUnescaped (CalledAt F.FnMut) (state_of decoder.old) tail.now result
+        (state_of decoder.new) }
+{
+    let mut place = 0;
+    while place < tail.len() {
+        let rest = &tail[place..];
+        let stretch = &rest[..rest.len().min(STRETCH)];
+        let len = decoder.feed_stretch(stretch)?;
+        place += len;
+        if len < stretch.len() {
+            return Ok(place);
+        }
+    }
+    Ok(place)
+}
+
 /// Calls a closure with the decoded bytes of a body of base64. Returns the place in the text where the body ends. The text before
 /// its first `%` and `#` is decoded where it is.
 pub(crate) fn decode_base64<F, E>(tail: &str, write: F) -> (Result<usize, DecodeError<E>>, F)
@@ -46,7 +73,7 @@ where
         (outcome true (plain_body tail.entry.now)) (IsBodyEnd tail.entry.now) result.0 result.1 }
 {
     let mut decoder = Decoder::new(write);
-    let place = match decoder.feed_unescaped(tail.as_bytes()) {
+    let place = match feed_front(&mut decoder, tail.as_bytes()) {
         Ok(place) => place,
         Err(error) => return (Err(error), decoder.into_closure()),
     };

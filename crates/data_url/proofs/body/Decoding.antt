@@ -13,13 +13,15 @@ use Rattle.data_url.specs.{Decoder.{Feeds, Finishes, State, start}, Run.{Call, I
 use Rattle.data_url.specs.{Errors.{IsRefused}, Fetch.{Good, outcome_bytes, plain_body, Bad, outcome, Outcome, tail_of}}
 use Rattle.data_url.specs.{Pieces.{Walk}, declared.DataUrl.{DataUrl}}
 use Rattle.data_url.specs.Steps.Chunks.{IsBodyFrom, IsBodyPrefix, IsCallableUntilError, Takes, TakesOn, TakesRest}
-use Rattle.data_url.specs.Steps.{Holding.{ReadsUnescaped, RefusesUnescaped}, Window.{is_plain}}
+use Rattle.data_url.specs.Steps.{Holding.{FeedsFront, RefusesUnescaped}, Window.{is_plain}}
 use Rattle.data_url.specs.Url.{is_tab_or_newline, number_sign}
 use Rattle.std.{proofs.lemmas.Bool.{and_parts, cases_Bool}, specs.Char.{is_ascii_whitespace}, specs.List.{list_all}}
-use Rattle.std.proofs.Common.{drop, take, inl, inr, ◌==◌, not, length-take-le, take-append-drop}
+use Rattle.std.proofs.Common.{drop, take, inl, inr, ◌==◌, not, length-take-le, take-append-drop, take-take, take-add}
+use Rattle.std.proofs.Common.{◌-◌, ◌<◌, ◌&&◌, ap₂, get_or, get_or-take, get_or-drop, subst}
+use Rattle.std.proofs.lemmas.List.Folds.{list_all-append}
 use Rattle.data_url.proofs.escapes.{EscapeDigits.{begins_other, cleaned_keeps, cleaned_passes}, Reading.{decoded_byte}}
 use Rattle.data_url.proofs.escapes.Reading.{plain_is}
-use Rattle.data_url.proofs.{forgiving_base64.Holding.{reads_feeds}, texts.Bytes.{after_other}}
+use Rattle.data_url.proofs.{texts.Bytes.{after_other}}
 use Rattle.data_url.specs.Steps.Digits.{cleaned}
 use Rattle.data_url.specs.{Steps.Whole.{DecodesText}, declared.forgiving_base64.DecodeError.{DecodeError}}
 use Rattle.data_url.specs.Url.{after, trimmed_text}
@@ -207,6 +209,28 @@ record IsBodyOf (tail bytes : List ℕ) : Type 0 where
   few : length bytes ≤ length tail
   alike : without_whitespace (plain_body tail) ≡ without_whitespace bytes
 
+-- a stretch of a tail ends where the tail does, at the latest
+stretch_within : (tail : List ℕ) {stretch : List ℕ} (at m : ℕ) → stretch ≡ take m (drop at tail)
+    → (length stretch ≤ m) × (length stretch ≤ length tail - at)
+stretch_within tail at m is =
+    let size = ap length is ∙ length-take m (drop at tail) in
+    let rest = length-drop at tail in
+    (omega (arith, size), omega (arith, size, rest))
+
+-- the bytes before a stretch of a tail, and then some of the stretch
+in_stretch : (tail : List ℕ) {stretch : List ℕ} (at m n : ℕ) → n ≤ length stretch → stretch ≡ take m (drop at tail)
+    → take at tail ++ take n stretch ≡ take (at + n) tail
+in_stretch tail at m n l is =
+    let few : n ≤ m = omega (arith, l, (stretch_within tail at m is).0) in
+    ap (λ t. take at tail ++ t) (ap (take n) is ∙ take-take n m (drop at tail) few) ∙ sym (take-add at n tail)
+
+-- the byte at a place in a stretch
+pub stretch_byte : (tail : List ℕ) {stretch : List ℕ} (at m n : ℕ) → n < length stretch
+    → stretch ≡ take m (drop at tail) → get_or stretch n 0 ≡ get_or tail (at + n) 0
+stretch_byte tail at m n l is =
+    let few : n < m = omega (arith, l, (stretch_within tail at m is).0) in
+    ap (λ t. get_or t n 0) is ∙ get_or-take m (drop at tail) n 0 few ∙ get_or-drop at tail n 0
+
 -- the front of a tail as it is, and then the body from there on
 front_body : (tail : List ℕ) (at : ℕ) → at ≤ length tail → list_all is_plain (take at tail) ≡ true
     → IsBodyOf tail (take at tail ++ plain_body (drop at tail))
@@ -268,6 +292,32 @@ module _ {F E : Type 0} (step : F → List ℕ → Result (Unit {0}) E → F →
   outcome_of {f} {g} {text} {u} place r e d b =
       rw (outcome_alike (plain_body text) u e.alike) (outcome_whole place r e.few d b)
 
+  -- after the front of a tail, a decoder is fed a stretch of it
+  pub front_more : {d d1 d2 : State F} {tail stretch : List ℕ} (at m n : ℕ) → stretch ≡ take m (drop at tail)
+      → FeedsFront step d tail at d1 → FeedsFront step d1 stretch n d2 → FeedsFront step d tail (at + n) d2
+  front_more {d} {d2 = d2} {tail} {stretch} at m n is k h =
+      let joined = in_stretch tail at m n h.within is in
+      record {
+        within = omega (arith, k.within, h.within, (stretch_within tail at m is).1);
+        plain = subst (λ t. list_all is_plain t ≡ true) joined
+            (list_all-append is_plain (take at tail) (take n stretch) ∙ ap₂ (λ a b. a && b) k.plain h.plain);
+        feeds = subst (λ t. Feeds step d t (Ok tt) d2) joined (feeds_then step k.feeds h.feeds);
+      }
+
+  -- and the stretch has a fault, or the closure returned an error
+  pub front_fails : {d d1 d2 : State F} {tail stretch : List ℕ} {x : DecodeError E} (at m : ℕ)
+      → stretch ≡ take m (drop at tail) → FeedsFront step d tail at d1 → RefusesUnescaped step d1 stretch x d2
+      → RefusesUnescaped step d tail x d2
+  front_fails {d} {d2 = d2} {tail} {stretch} {x} at m is k h =
+      let joined = in_stretch tail at m h.at h.within is in
+      record {
+        at = at + h.at;
+        within = omega (arith, k.within, h.within, (stretch_within tail at m is).1);
+        plain = subst (λ t. list_all is_plain t ≡ true) joined
+            (list_all-append is_plain (take at tail) (take h.at stretch) ∙ ap₂ (λ a b. a && b) k.plain h.plain);
+        feeds = subst (λ t. Feeds step d t (Err x) d2) joined (feeds_then step k.feeds h.feeds);
+      }
+
   -- the front of a tail has a fault, or the closure returned an error
   pub front_refused : {f : F} {d d' : State F} {tail : List ℕ} {x : DecodeError E} → d ≡ start f
       → RefusesUnescaped step d tail x d'
@@ -294,13 +344,13 @@ module _ {C F E : Type 0} {outer : C → List ℕ → Result (Unit {0}) (DecodeE
 
   -- after the front of a tail, a closure that feeds the decoder takes the rest of the body up to an error
   pub fed_refused : {f : F} {c c' : C} {d : State F} {tail : List ℕ} {place : ℕ} {w : Walk}
-      {r : Result ℕ (DecodeError E)} {x : DecodeError E} → d ≡ start f → ReadsUnescaped step d tail place (state c)
+      {r : Result ℕ (DecodeError E)} {x : DecodeError E} → d ≡ start f → FeedsFront step d tail place (state c)
       → IsBodyFrom tail place w → TakesRest outer c w r c' → r ≡ Err x
       → Decodes step f (length tail + 1) (outcome true (plain_body tail)) (IsBodyEnd tail) (Err x) (state c').closure
   fed_refused {f} {c} {c'} {d} {tail} {place} {w} {r} {x} s front from took e =
       let t = rw e at took in
       let k = match_at (refusal t.run) (Some x) _ _ (sym t.gave.0)
-      (fed (take place tail) c c' t.run (reads_feeds step (rw s at front.reads)) t.ran) in
+      (fed (take place tail) c c' t.run (rw s at front.feeds) t.ran) in
       let whole : (take place tail ++ joined_pieces t.run) ++ t.gave.1.0 ≡ take place tail
       ++ plain_body (drop place tail) =
       cc (from.rest_is, t.gave.1.1, append_assoc (take place tail) (joined_pieces t.run) t.gave.1.0) in
@@ -310,13 +360,13 @@ module _ {C F E : Type 0} {outer : C → List ℕ → Result (Unit {0}) (DecodeE
   -- then it takes the whole body, and the decoder is finished
   pub fed_ended : {f g : F} {c c' : C} {d : State F} {tail : List ℕ} {place end : ℕ} {w : Walk}
       {r : Result ℕ (DecodeError E)} {p : Result (Unit {0}) (DecodeError E)} {q : Result ℕ (DecodeError E)}
-      → d ≡ start f → ReadsUnescaped step d tail place (state c) → IsBodyFrom tail place w → TakesRest outer c w r c'
+      → d ≡ start f → FeedsFront step d tail place (state c) → IsBodyFrom tail place w → TakesRest outer c w r c'
       → r ≡ Ok end → Finishes step (state c') p g → MatchResult p (λ x. q ≡ Ok end) (λ e. q ≡ Err e)
       → Decodes step f (length tail + 1) (outcome true (plain_body tail)) (IsBodyEnd tail) q g
   fed_ended {f} {g} {c} {c'} {d} {tail} {place} {end} {w} {r} {p} {q} s front from took e ended m =
       let t = rw e at took in
       let k = match_at (refusal t.run) None _ _ (sym t.gave.1)
-      (fed (take place tail) c c' t.run (reads_feeds step (rw s at front.reads)) t.ran) in
+      (fed (take place tail) c c' t.run (rw s at front.feeds) t.ran) in
       let whole : take place tail ++ joined_pieces t.run ≡ take place tail ++ plain_body (drop place tail) =
       cc (from.rest_is, t.gave.2) in
       rw (sym (mapped end p q m)) (outcome_of step end p (front_body tail place front.within front.plain)

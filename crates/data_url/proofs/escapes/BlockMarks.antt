@@ -1,18 +1,19 @@
 -- Blocks of a text and their marks: lanes that are looked up in a table and compared. For `marks_of` and
 -- `next_mark`.
-use Rattle.std.proofs.Common.{slice_index, Bool, Fits, List, ap, arith, bit_and, cond, drop, eqb, eqb-true, get_or, inl}
+use Rattle.std.proofs.Common.{slice_index, Bool, Fits, List, ap, arith, bit_and, cond, drop, eqb, get_or, inl}
 use Rattle.std.proofs.Common.{inr}
 use Rattle.std.proofs.Common.{leb, length, length-take-le, map, map-id, not, refl, replicate, slice_range, suc}
-use Rattle.std.proofs.Common.{sym, take, take-take, take_all, true, w8, zero, [], ℕ, ◌%◌, ◌++◌, ◌+◌, ◌-◌, ◌/◌, ◌<◌}
+use Rattle.std.proofs.Common.{sym, take, take-take, take_all, w8, zero, [], ℕ, ◌%◌, ◌++◌, ◌+◌, ◌-◌, ◌/◌, ◌<◌}
 use Rattle.std.proofs.{Common.{◌^◌, ◌∙◌, ◌∷◌, ◌≡◌, ◌≢◌, ◌≤◌}, Math.Nat.{div-div-eq-div-mul, pow-suc}}
-use Rattle.std.proofs.{Math.Seq.{take-append-add}, lemmas.Bool.{agree_below_at, cases_Bool, cases_lt, eqb-true}}
+use Rattle.std.proofs.{Math.Seq.{take-append-add}, lemmas.Bool.{agree_below_at, cases_Bool, cases_lt}}
 use Rattle.std.proofs.lemmas.List.{drop-drop, drop-map, drop-replicate, drop-take, drop_all, drop_more, get_or-drop}
 use Rattle.std.proofs.lemmas.{List.{length-drop, length-map, length-take, take-append-le, take_rest}, Nat.{and_le_r}}
-use Rattle.std.proofs.lemmas.Simd.{SwzOk, SwzOk-from_below, bitmask_splat, get_or-swz_l_below, mask_l-mod}
+use Rattle.std.proofs.lemmas.Simd.{SwzOk, bitmask_splat, mask_l-mod}
 use Rattle.std.proofs.lemmas.Simd.{none_from_empty_mask, put_chunk_whole, run_in_chunk_fails, run_in_chunk_le}
 use Rattle.std.proofs.lemmas.Simd.{run_in_chunk_stops, swz_l, tops_compared, trailing_mask_l, zip2_of_maps, zip2_splat}
 use Rattle.std.specs.{Int.Count.{count_trailing_zeros}, List.{prefix_len}, Simd.Lanes.{Each1, chunk, mask_l}}
 use Rattle.std.specs.Simd.Lanes.{put_chunk, top, zip2}
+use Rattle.data_url.proofs.classes.Lookups.{four_rows, looked_up, places_ok}
 use Rattle.data_url.{proofs.escapes.Reading.{escape_ends, paid_on, paid_percent}, specs.Steps.Walk.{IsBlock, IsClear}}
 use Rattle.data_url.specs.Steps.{Walk.{IsNextMark, Looking}, Window.{is_marked}}
 use Rattle.data_url.specs.declared.escapes.{lanes.TheConstants.{MARKED}, marks.Block.{Block}, source.Source.{Source}}
@@ -77,34 +78,21 @@ lows v = zip2 bit_and v (replicate 64 15)
 pub lows_are : (v : List ℕ) → length v ≡ 64 → lows v ≡ map low_half v
 lows_are v long = zip2_splat bit_and v 64 15 long
 
--- each low half of a list of bytes is below 16
-each_low : (v : List ℕ) → Each1 (λ j. j < 16) (map low_half v)
-each_low [] = tt
-each_low (b ∷ v) = (grind (arith, and_le_r), each_low v)
+-- a low half is below 16
+low_small : (b : ℕ) → b < 256 → low_half b < 16
+low_small b l = omega (arith, and_le_r b 15)
 
 -- the low halves satisfy the swizzle's precondition
-pub lows_ok : (v : List ℕ) → length v ≡ 64 → SwzOk w8 16 64 0 (lows v)
-lows_ok v long =
-    let l : length (map low_half v) ≡ 64 = length-map v low_half ∙ long in
-    rw (lows_are v long) (SwzOk-from_below w8 16 4 64 0 (map low_half v) refl (omega (arith, l)) (each_low v))
-
--- the table repeats itself
-repeats : (k : ℕ) → k < 64 → get_or MARKED k 0 ≡ get_or MARKED (k % 16) 0
-repeats k l =
-    eqb-true _ _ (agree_below_at (λ k. eqb (get_or MARKED k 0) (get_or MARKED (k % 16) 0)) (λ k. true) 64 k refl l)
+pub lows_ok : (v : List ℕ) → length v ≡ 64 → Each1 (Fits w8) v → SwzOk w8 16 64 0 (lows v)
+lows_ok v long fits = places_ok low_half v (lows v) long (lows_are v long) low_small fits
 
 -- the entry of a byte
 abbrev pub entry : ℕ → ℕ
 entry b = get_or MARKED (low_half b) 0
 
--- from an index on, a swizzle of the table by the low halves of bytes looks up the entry of each byte
-looked_from : (v : List ℕ) (i : ℕ) → i + length v ≤ 64 → swz_l w8 16 MARKED i (map low_half v) ≡ map entry v
-looked_from [] i l = refl
-looked_from (b ∷ v) i l = grind (arith, looked_from v (suc i) (omega arith), and_le_r, get_or-swz_l_below, repeats)
-
--- a swizzle by the low halves looks up the entry of each byte
-pub looked_up : (v : List ℕ) → length v ≡ 64 → swz_l w8 16 MARKED 0 (lows v) ≡ map entry v
-looked_up v long = grind (arith, swz_l, lows_are, looked_from)
+-- the entries of a list of bytes, as lanes look them up
+abbrev pub entries : List ℕ → List ℕ
+entries v = swz_l w8 16 (four_rows (take 16 MARKED)) 0 (lows v)
 
 -- the bytes of a list that are equal to their entries are the marked ones
 marked_each : (v : List ℕ) → Each1 (Fits w8) v → map (λ b. eqb (entry b) b) v ≡ map is_marked v
@@ -113,12 +101,12 @@ marked_each (b ∷ v) h = grind (arith, agree_below_at (λ b. eqb (entry b) b) i
 
 -- the mask that lanes compute is that of the marked bytes
 pub marks_are : (v : List ℕ) → length v ≡ 64 → Each1 (Fits w8) v
-    → mask_l (map (top 7) (zip2 (λ a b. cond (eqb a b) 255 0) (swz_l w8 16 MARKED 0 (lows v)) v)) % 2 ^ 64 ≡ mask_l
-    (map is_marked v)
+    → mask_l (map (top 7) (zip2 (λ a b. cond (eqb a b) 255 0) (entries v) v)) % 2 ^ 64 ≡ mask_l (map is_marked v)
 marks_are v long fits =
     let l = length-map v is_marked in
-    let e = zip2_of_maps eqb entry (λ b. b) v (looked_up v long) (sym (map-id v)) in
-    let t = tops_compared w8 eqb (swz_l w8 16 MARKED 0 (lows v)) v in
+    let found = looked_up MARKED low_half v (lows v) long (omega arith) fits (lows_are v long) low_small in
+    let e = zip2_of_maps eqb entry (λ b. b) v found (sym (map-id v)) in
+    let t = tops_compared w8 eqb (entries v) v in
     cc (marked_each v fits, mask_l-mod (map is_marked v) 64 (omega arith))
 
 -- if no byte is at most '%', none is marked
@@ -131,9 +119,6 @@ pub none_marked : (v : List ℕ) → length v ≡ 64
     → mask_l (map (top 7) (zip2 (λ a b. cond (leb a b) 255 0) v (replicate 64 37))) % 2 ^ 64 ≡ 0
     → 0 ≡ mask_l (map is_marked v)
 none_marked v long e = none_low v (sym (bitmask_splat w8 leb v 64 37 long (omega arith)) ∙ e)
-
--- the lemmas for `marks_of`
-pub ruleset marks = (lows_ok, marks_are, none_marked)
 
 -- if no item of a list passes a test, the mask of the items that pass is 0
 mask_none : (p : ℕ → Bool) (xs : List ℕ) → prefix_len (λ y. not (p y)) xs ≡ length xs → mask_l (map p xs) ≡ 0

@@ -13,7 +13,8 @@ use Rattle.data_url.specs.Base64.{Kind, after_groups, first_fault, groups, is_sy
 use Rattle.data_url.specs.{Base64.{symbol_value}, Decoder.{Feeds, IsLeft, State, left_over}, Run.{IsRun, joined_pieces}}
 use Rattle.data_url.specs.{Mime.{Every}, declared.forgiving_base64.held.HeldGroups.{HeldGroups}}
 use Rattle.data_url.specs.Steps.{Groups.{Fills, IsWhole, held_bytes, is_symbol_or_space}, Window.{is_plain}}
-use Rattle.data_url.specs.Steps.Holding.{Adds, CallsOnce, EndsWithin, Gains, IsBetweenGroups, Reads, ReadsTo, Refuses}
+use Rattle.data_url.specs.Steps.Holding.{Adds, CallsOnce, EndsWithin, FeedsFront, Gains, IsBetweenGroups, Reads}
+use Rattle.data_url.specs.Steps.Holding.{ReadsTo, Refuses}
 use Rattle.data_url.specs.declared.forgiving_base64.DecodeError.{DecodeError}
 use Rattle.data_url.specs.declared.forgiving_base64.DecodeError.TheVariants.{InvalidBase64, WriteError}
 use Rattle.data_url.proofs.forgiving_base64.Groups.{symbols_alone}
@@ -329,6 +330,11 @@ module _ {F E : Type 0} (step : F → List ℕ → Result (Unit {0}) E → F →
   -- the text of a tail that was read has no '#' and no '%'
   pub reads_plain : {d d' : State F} {t held : List ℕ} → Reads step d t held d' → list_all is_plain t ≡ true
   reads_plain {d} {t = t} r = plain_after (left_over d) t r.no_fault
+
+  -- the front of a tail was read
+  pub reads_front : {d d' : State F} {tail : List ℕ} {place : ℕ} → place ≤ length tail
+      → Reads step d (take place tail) [] d' → FeedsFront step d tail place d'
+  reads_front l r = record { within = l; plain = reads_plain r; feeds = reads_feeds r }
 
   -- an error of the closure ends the feeding of a text that has no fault up to an index
   pub ends_within : {d d1 d2 : State F} {s held : List ℕ} {x : DecodeError E} (at : ℕ) → at ≤ length s

@@ -2,68 +2,21 @@
 use Rattle.std.proofs.Common.{List, [], ◌∷◌, ◌++◌, map, ◌≡◌, ℕ, ◌<◌, ◌≤◌, true, eqb, get_or, Fits, w8, w32, ap, length}
 use Rattle.std.proofs.Common.{◌+◌, ◌*◌, ◌/◌, ◌%◌, ◌^◌, refl, sym, ◌∙◌, ap₂, arith, suc, zero, take, drop}
 use Rattle.std.proofs.Common.{take-add, replicate}
-use Rattle.std.specs.List.{range_with_len, list_all}
-use Rattle.std.proofs.lemmas.List.{drop_all, drop_more, length-map, take-map, take-take}
-use Rattle.std.proofs.lemmas.Simd.{SwzOk, SwzOk-from_below, swz_l, get_or_narrower, below_from_Fits, pick_l_left}
-use Rattle.std.proofs.lemmas.Simd.{pick_l-range_with_len}
+use Rattle.std.specs.List.{list_all}
+use Rattle.std.proofs.lemmas.List.{drop_all, drop_more, take-map, take-take}
+use Rattle.data_url.proofs.classes.Lookups.{extracted, extracted_is, first_row, four_rows}
+use Rattle.std.proofs.lemmas.Simd.{get_or_narrower, below_from_Fits, pick_l_left, pick_l_whole}
 use Rattle.data_url.specs.{Base64.{group_number, groups, is_symbol, symbol_value}}
-use Rattle.data_url.specs.Steps.Lanes.{DecodesFront, offset_row, number_bytes, numbers, value_of}
-use Rattle.data_url.proofs.forgiving_base64.Vectors.{chosen, joined, each_map, each_take, front_values, put_three}
-use Rattle.data_url.specs.Steps.Classes.{Repeats}
-use Rattle.std.proofs.Common.{get_or-take, cond, eqb-true}
-use Rattle.std.proofs.lemmas.Bool.{agree_below, agree_below_at, ltb-true}
+use Rattle.data_url.specs.Steps.Lanes.{DecodesFront, offset_row, number_bytes, numbers, twelves, value_of}
+use Rattle.data_url.proofs.forgiving_base64.Vectors.{chosen, joined, each_take, front_values, put_three}
+use Rattle.data_url.specs.declared.{forgiving_base64.alphabet.TheConstants.{TWELVES}}
+use Rattle.std.proofs.Common.{cond}
+use Rattle.std.proofs.lemmas.Bool.{agree_below_at, ltb-true}
 use Rattle.std.proofs.Math.Dec.{ltb}
 use Rattle.std.proofs.lemmas.Simd.{splat_is_map, tops_compared, zip2_splat}
-use lib.Lanes.{sel_l, top, Each1, all_below, digits_l, number_l, pair_sums, pick_l, products, zip2}
-use lib.Dec.{T}
+use lib.Lanes.{sel_l, top, Each1, digits_l, number_l, pair_sums, pick_l, products, zip2}
 
--- Looking up
-
--- if indices below 16 are computed from the bytes of n rows, the swizzle's precondition is satisfied
-pub places_ok : (g : ℕ → ℕ) (n : ℕ) (v js : List ℕ) → length v ≡ n → n % 16 ≡ 0 → js ≡ map g v
-    → ((x : ℕ) → x < 256 → g x < 16) → Each1 (Fits w8) v → SwzOk w8 16 n 0 js
-places_ok g n v js long rows e small fits =
-    SwzOk-from_below w8 16 (n / 16) n 0 js (omega (arith, rows)) (omega (arith, ap length e, length-map v g, long))
-    (rw e (each_map (Fits w8) (λ j. j < 16) g (λ x h. small x h.fits) v fits))
-
--- from a lane on, a swizzle looks up the entry of each byte at its index
-looked_from : (t : List ℕ) (g : ℕ → ℕ) (n : ℕ) → n % 16 ≡ 0 → Repeats t n → ((x : ℕ) → x < 256 → g x < 16) → (v : List
-    ℕ)
-    → Each1 (Fits w8) v → (i : ℕ) → i + length v ≤ n
-    → swz_l w8 16 (take n t) i (map g v) ≡ map (λ x. get_or t (g x) 0) v
-looked_from t g n rows same small [] fits i l = refl
-looked_from t g n rows same small (b ∷ v) fits i l =
-    let rest = looked_from t g n rows same small v fits.1 (suc i) (omega (arith, l)) in
-    let j = small b fits.0.fits in
-    let within : 16 * (i / 16) + g b < n = omega (arith, l, rows, j) in
-    let lane : (16 * (i / 16) + g b) % 16 ≡ g b = omega (arith, j) in
-    let entry = get_or-take n t (16 * (i / 16) + g b) 0 within ∙ same.same (16 * (i / 16) + g b) within
-    ∙ ap (λ k. get_or t k 0) lane in
-    grind (arith, rest, j, entry)
-
--- a swizzle looks up the entry of each byte at its index
-pub looked_up : (t : List ℕ) (g : ℕ → ℕ) (n : ℕ) (v js : List ℕ) → length v ≡ n → n % 16 ≡ 0 → Repeats t n
-    → Each1 (Fits w8) v → js ≡ map g v → ((x : ℕ) → x < 256 → g x < 16)
-    → swz_l w8 16 (take n t) 0 js ≡ map (λ x. get_or t (g x) 0) v
-looked_up t g n v js long rows same fits e small =
-    ap (swz_l w8 16 (take n t) 0) e ∙ looked_from t g n rows same small v fits 0 (omega (arith, long))
-
--- a table that is computed to repeat its first sixteen entries
-pub repeats : (t : List ℕ) (n : ℕ) → n ≤ length t
-    → agree_below (λ k. eqb (get_or t k 0) (get_or t (k % 16) 0)) (λ _. true) 64 ≡ true → n ≤ 64 → Repeats t n
-repeats t n long h few = record {
-  long = long;
-  same = λ k l. eqb-true _ _ (agree_below_at (λ k. eqb (get_or t k 0) (get_or t (k % 16) 0)) (λ _. true) 64 k h
-      (omega (arith, l, few)));
-}
-
--- each table repeats its first sixteen entries up to there
-pub repeats_row : (t : List ℕ) → 16 ≤ length t → Repeats t 16
-repeats_row t long = record {
-  long = long;
-  same = λ k l. let e : k ≡ k % 16 = omega (arith, l) in ap (λ k. get_or t k
-      0) e;
-}
+-- Values
 
 -- the index of each byte in the table of offsets is below 16
 pub row_small : (x : ℕ) → x < 256 → offset_row x < 16
@@ -197,29 +150,28 @@ front_bytes (suc m) (n ∷ ns) =
     let e : 3 * suc m ≡ suc (suc (suc (3 * m))) = omega arith in
     rw e (ap (λ t. n / 65536 % 256 ∷ n / 256 % 256 ∷ n % 256 ∷ t) (front_bytes m ns))
 
--- the bytes of the numbers of a row begin with those of the groups of symbols that the row begins with
-pub row_is : (s vs ns r : List ℕ) → Each1 (Fits w8) s → vs ≡ map value_of s → ns ≡ numbers vs → take 12 r ≡
-    number_bytes ns
-    → DecodesFront s r
-row_is s vs ns r fits p q o m few all =
+-- the bytes of the numbers of a block begin with those of the groups of symbols that its first row begins with
+pub row_is : (s w vs ns r : List ℕ) → length s ≡ 16 → Each1 (Fits w8) s → w ≡ four_rows s → vs ≡ map value_of w
+    → ns ≡ numbers vs → length r ≡ 64 → twelves r ≡ number_bytes ns → DecodesFront s (extracted 0 r)
+row_is s w vs ns r long fits f p q size o m few all =
     let front = front_values (take (4 * m) s) (each_take (4 * m) s fits) all in
-    let size : 3 * m ≤ 12 = omega (arith, few) in
-    sym (take-take (3 * m) 12 r size) ∙ ap (take (3 * m)) (o ∙ ap number_bytes (q ∙ ap numbers p))
-    ∙ front_bytes m (numbers (map value_of s)) ∙ ap number_bytes (front_numbers m (map value_of s))
-    ∙ ap (λ v. number_bytes (numbers v)) (take-map value_of (4 * m) s) ∙ groups_are (map value_of (take (4 * m) s))
-    front.1
-    ∙ ap groups front.0
+    let within : 3 * m ≤ 12 = omega (arith, few) in
+    let whole = pick_l_whole 0 r 64 size in
+    let first = sym (ap (λ x. take 12 (twelves x)) whole) ∙ ap (take 12) whole in
+    let row = sym (take-take (4 * m) 16 (four_rows s) (omega (arith, few))) ∙ ap (take (4 * m)) (first_row s long) in
+    ap (take (3 * m)) (extracted_is r 0 size (omega arith) tt) ∙ take-take (3 * m) 16 r (omega (arith, within))
+    ∙ sym (take-take (3 * m) 12 r within) ∙ ap (take (3 * m)) (sym first) ∙ take-take (3 * m) 12 (twelves r) within
+    ∙ ap (take (3 * m)) (o ∙ ap number_bytes (q ∙ ap numbers (p ∙ ap (map value_of) f)))
+    ∙ front_bytes m (numbers (map value_of (four_rows s)))
+    ∙ ap number_bytes (front_numbers m (map value_of (four_rows s)))
+    ∙ ap (λ v. number_bytes (numbers v)) (take-map value_of (4 * m) (four_rows s) ∙ ap (map value_of) row)
+    ∙ groups_are (map value_of (take (4 * m) s)) front.1 ∙ ap groups front.0
 
 -- Blocks
 
--- a part of 16 lanes of a block, as lanes extract it
-abbrev pub extracted : ℕ → List ℕ → List ℕ
-extracted at v = pick_l 0 (v ++ v) (range_with_len at 16)
-
-extracted_is : (v : List ℕ) (at : ℕ) → length v ≡ 64 → at + 16 ≤ 64 → T (all_below 64 (range_with_len at 16))
-    → extracted at v ≡ take 16 (drop at v)
-extracted_is v at long room below =
-    pick_l_left 0 v v 64 (range_with_len at 16) long below ∙ pick_l-range_with_len 0 v at 16 (omega (arith, long))
+-- what a swizzle by the places of the first twelve bytes of each row begins with
+pub picked_twelves : (r : List ℕ) → length r ≡ 64 → take 48 (pick_l 0 (r ++ r) TWELVES) ≡ twelves r
+picked_twelves r long = ap (take 48) (pick_l_left 0 r r 64 TWELVES long tt) ∙ ap twelves (pick_l_whole 0 r 64 long)
 
 -- the first three parts of a block, put one after another, are its first 48 bytes
 pub parts_are : (r b1 b2 b3 : List ℕ) → length r ≡ 64 → take 16 b1 ≡ extracted 0 r

@@ -1,5 +1,5 @@
 -- Classes of bytes: some are looked up in tables, the others are compared.
-use Rattle.std.specs.Prelude.{◌/◌, ◌%◌, ◌<◌, ◌≤◌, ◌==◌, ◌≡◌, Bool, List, bit_and, false, length, not, slice_index, ℕ}
+use Rattle.std.specs.Prelude.{◌/◌, ◌<◌, ◌==◌, ◌≡◌, Bool, List, bit_and, false, not, slice_index, ℕ}
 use Rattle.data_url.specs.CodePoints.{is_http_whitespace, is_token}
 use Rattle.data_url.specs.Url.{is_c0_control_or_space, is_tab_or_newline}
 use Rattle.data_url.specs.Steps.Header.{is_no_question_mark}
@@ -25,11 +25,6 @@ in_class Path = is_no_question_mark
 in_class Header = in_header
 in_class Name = in_name
 in_class Value = in_value
-
--- the first n entries of a table are its first sixteen, again and again
-pub record Repeats (table : List ℕ) (n : ℕ) : Type 0 where
-  pub long : n ≤ length table
-  pub same : (k : ℕ) → k < n → slice_index table k ≡ slice_index table (k % 16)
 
 -- what a byte's entries in the two tables have in common, one for each half of the byte; 0 only for a byte of the class
 abbrev pub looked_up : List ℕ → ℕ → ℕ

@@ -90,13 +90,12 @@ abbrev pub ReadsText : {F E : Type 0} → (F → List ℕ → Result (Unit {0}) 
 ReadsText step d text r d' =
     MatchResult r (λ read. ReadsTo step d text read.0 read.1 d') (λ x. EndsWithin step d text x d')
 
--- d reads a tail up to its first '#' or '%', or to its end
-pub record ReadsUnescaped {F E : Type 0} (step : F → List ℕ → Result (Unit {0}) E → F → Type 0) (d : State F)
+-- feeding d the first bytes of a tail, none of which is '#' or '%', returns no error
+pub record FeedsFront {F E : Type 0} (step : F → List ℕ → Result (Unit {0}) E → F → Type 0) (d : State F)
     (tail : List ℕ) (place : ℕ) (d' : State F) : Type 0 where
   pub within : place ≤ length tail
   pub plain : list_all is_plain (take place tail) ≡ true
-  pub ends : place < length tail → is_plain (slice_index tail place) ≡ false
-  pub reads : Reads step d (take place tail) [] d'
+  pub feeds : Feeds step d (take place tail) (Ok tt) d'
 
 -- feeding d a tail up to an index before which there is no '#' and no '%' ends with an error
 pub record RefusesUnescaped {F E : Type 0} (step : F → List ℕ → Result (Unit {0}) E → F → Type 0) (d : State F)
@@ -109,8 +108,9 @@ pub record RefusesUnescaped {F E : Type 0} (step : F → List ℕ → Result (Un
 -- feeding d a tail up to its first '#' or '%' returns the place of that byte, or the length of the tail, or an error
 abbrev pub FeedsUnescaped : {F E : Type 0} → (F → List ℕ → Result (Unit {0}) E → F → Type 0) → State F → List ℕ
     → Result ℕ (DecodeError E) → State F → Type 0
-FeedsUnescaped step d tail r d' =
-    MatchResult r (λ place. ReadsUnescaped step d tail place d') (λ x. RefusesUnescaped step d tail x d')
+FeedsUnescaped step d tail r d' = MatchResult r
+    (λ place. FeedsFront step d tail place d' × (place < length tail → is_plain (slice_index tail place) ≡ false))
+    (λ x. RefusesUnescaped step d tail x d')
 
 -- d passes these bytes, which are held, to its closure, whatever text was read before. After `Ok` the
 -- bytes that are held after them, b, are still held; an error ends the feeding.

@@ -1,6 +1,6 @@
 -- What the vector code computes from one byte, and from a row of values.
 use Rattle.std.specs.Prelude.{[], if◌then◌else◌, ◌%◌, ◌*◌, ◌+◌, ◌/◌, ◌==◌, ◌∷◌, ◌≡◌, ◌≤◌, IsTrue, List}
-use Rattle.std.specs.{List.{list_all}, Prelude.{map, slice_index, take, ℕ}}
+use Rattle.std.specs.{List.{list_all}, Prelude.{◌++◌, drop, map, slice_index, take, ℕ}}
 use Rattle.data_url.specs.Base64.{group_number, groups, is_symbol, symbol_value}
 use Rattle.data_url.specs.declared.forgiving_base64.alphabet.TheConstants.{OFFSETS}
 
@@ -21,6 +21,10 @@ numbers vs = []
 abbrev pub number_bytes : List ℕ → List ℕ
 number_bytes [] = []
 number_bytes (n ∷ ns) = n / 65536 % 256 ∷ n / 256 % 256 ∷ n % 256 ∷ number_bytes ns
+
+-- the first twelve bytes of each row of a block
+abbrev pub twelves : List ℕ → List ℕ
+twelves bytes = take 12 bytes ++ take 12 (drop 16 bytes) ++ take 12 (drop 32 bytes) ++ take 12 (drop 48 bytes)
 
 -- the groups of symbols that a row begins with are decoded at the front of the bytes
 abbrev pub DecodesFront : List ℕ → List ℕ → Type 0

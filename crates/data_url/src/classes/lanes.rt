@@ -2,7 +2,7 @@
 
 ghost use Rattle.std.specs.Prelude.{◌≡◌, ◌+◌, ◌-◌, ◌++◌, ◌≤◌, drop, length, map, not, replicate, take};
 ghost use Rattle.std.specs.{List.{list_all}, Simd.Lanes.{mask_l}};
-ghost use Rattle.data_url.specs.Steps.Classes.{AreOf, Repeats, is_marked, looked_up};
+ghost use Rattle.data_url.specs.Steps.Classes.{AreOf, is_marked, looked_up};
 
 use std::simd::prelude::*;
 
@@ -12,12 +12,9 @@ pub(crate) const ROW: usize = 16;
 /// How many bytes a block has.
 pub(crate) const BLOCK: usize = 64;
 
-/// Has, for each high half of a byte, the bit of its column, once for each sixteen lanes. Bytes from 0x10 to 0x1F and from 0x80 on
-/// share one bit.
-const COLUMNS: [u8; 64] = [
-    1, 128, 2, 4, 8, 16, 32, 64, 128, 128, 128, 128, 128, 128, 128, 128, 1, 128, 2, 4, 8, 16, 32,
-    64, 128, 128, 128, 128, 128, 128, 128, 128, 1, 128, 2, 4, 8, 16, 32, 64, 128, 128, 128, 128,
-    128, 128, 128, 128, 1, 128, 2, 4, 8, 16, 32, 64, 128, 128, 128, 128, 128, 128, 128, 128,
+/// Has, for each high half of a byte, the bit of its column. Bytes from 0x10 to 0x1F and from 0x80 on share one bit.
+const COLUMNS: [u8; 16] = [
+    1, 128, 2, 4, 8, 16, 32, 64, 128, 128, 128, 128, 128, 128, 128, 128,
 ];
 
 /// The row of a text that begins at a place.
@@ -65,27 +62,40 @@ pub(crate) fn spliced(first: u8x16, second: u8x16, at: usize) -> u8x16
         .select(first, second)
 }
 
-/// Looks up both halves of each byte of a row. Returns the bits that their entries have in common: none only where the byte is
+/// The places in a row, four times.
+const FOUR_TIMES: [usize; 64] = [
+    0, 1, 2, 3, 4, 5, 6, 7, 8, 9, 10, 11, 12, 13, 14, 15, 0, 1, 2, 3, 4, 5, 6, 7, 8, 9, 10, 11, 12,
+    13, 14, 15, 0, 1, 2, 3, 4, 5, 6, 7, 8, 9, 10, 11, 12, 13, 14, 15, 0, 1, 2, 3, 4, 5, 6, 7, 8, 9,
+    10, 11, 12, 13, 14, 15,
+];
+
+/// Returns a block that has a row four times. What only its first row is used for, is computed for that row alone.
+#[inline(always)]
+pub(crate) fn repeated(row: u8x16) -> u8x64
+    ensures { result ≡ row ++ row ++ row ++ row }
+{
+    row.swizzle(FOUR_TIMES)
+}
+
+/// Looks up both halves of each byte of a block. Returns the bits that their entries have in common: none only where the byte is
 /// in the class.
 #[inline(always)]
-fn looked_up(others: &[u8], bytes: u8x16) -> u8x16
+fn looked_up(others: &[u8], block: u8x64) -> u8x64
     requires { 16 ≤ length others.now }
-    ensures { result ≡ map (looked_up others.now) bytes }
+    ensures { result ≡ map (looked_up others.now) block }
 {
-    let low = row(others, 0).swizzle_dyn(bytes & u8x16::splat(15));
-    let high = row(&COLUMNS, 0).swizzle_dyn(bytes >> u8x16::splat(4));
+    let low = repeated(row(others, 0)).swizzle_dyn_within::<16>(block & u8x64::splat(15));
+    let high = repeated(row(&COLUMNS, 0)).swizzle_dyn_within::<16>(block >> u8x64::splat(4));
     low & high
 }
 
-/// Looks up both halves of each byte of a block, as `looked_up` does for a row.
+/// Looks up the bytes of a row, as `looked_up` does those of a block.
 #[inline(always)]
-fn looked_up_in_block(others: &[u8], block: u8x64) -> u8x64
-    requires { Repeats others.now 64 }
-    ensures { result ≡ map (looked_up others.now) block }
+fn looked_up_in_row(others: &[u8], row: u8x16) -> u8x16
+    requires { 16 ≤ length others.now }
+    ensures { result ≡ map (looked_up others.now) row }
 {
-    let low = u8x64::from_slice(others).swizzle_dyn_within::<16>(block & u8x64::splat(15));
-    let high = u8x64::from_array(COLUMNS).swizzle_dyn_within::<16>(block >> u8x64::splat(4));
-    low & high
+    looked_up(others, repeated(row)).extract::<0, 16>()
 }
 
 /// Returns a bit for each byte of a row, which is set where the byte may be outside a class.
@@ -94,7 +104,9 @@ pub(crate) fn marks(others: &[u8], row: u8x16) -> u64
     requires { 16 ≤ length others.now }
     ensures { result ≡ mask_l (map (is_marked others.now) row) }
 {
-    looked_up(others, row).simd_ne(u8x16::splat(0)).to_bitmask()
+    looked_up_in_row(others, row)
+        .simd_ne(u8x16::splat(0))
+        .to_bitmask()
 }
 
 /// Whether no byte of a row is marked. As a test for a branch, this takes fewer instructions than the bits of `marks`.
@@ -103,16 +115,16 @@ pub(crate) fn is_unmarked(others: &[u8], row: u8x16) -> bool
     requires { 16 ≤ length others.now }
     ensures { result ≡ list_all (λ b. not (is_marked others.now b)) row }
 {
-    looked_up(others, row).reduce_or() == 0
+    looked_up_in_row(others, row).reduce_or() == 0
 }
 
 /// Whether no byte of a block is marked.
 #[inline(always)]
 pub(crate) fn is_block_unmarked(others: &[u8], block: u8x64) -> bool
-    requires { Repeats others.now 64 }
+    requires { 16 ≤ length others.now }
     ensures { result ≡ list_all (λ b. not (is_marked others.now b)) block }
 {
-    looked_up_in_block(others, block).reduce_or() == 0
+    looked_up(others, block).reduce_or() == 0
 }
 
 /// Returns how many bytes come before the first marked byte of the whole rows, or the length of these rows if there is none.

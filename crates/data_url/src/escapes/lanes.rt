@@ -1,19 +1,14 @@
 //! Finds the bytes of a text that its body does not hold as they are, 64 bytes at a time.
 
-#![tactic(auto, using(crate::proofs::escapes::BlockMarks::marks))]
-
 ghost use Rattle.std.specs.{Prelude.{◌≡◌, ◌==◌, map}, Simd.Lanes.{mask_l}};
 ghost use Rattle.data_url.specs.Steps.{Escapes.{escape_starts, place_values, stops}, Window.{is_marked}};
 ghost use Rattle.data_url.specs.Url.{is_tab_or_newline, percent_sign};
 
+use crate::classes::lanes::{repeated, row};
 use std::simd::prelude::*;
 
 /// Has, for each low half of a byte, the marked byte with that half, or a byte with another half.
-const MARKED: [u8; 64] = [
-    1, 0, 0, 35, 0, 37, 0, 0, 0, 9, 10, 0, 0, 13, 0, 0, 1, 0, 0, 35, 0, 37, 0, 0, 0, 9, 10, 0, 0,
-    13, 0, 0, 1, 0, 0, 35, 0, 37, 0, 0, 0, 9, 10, 0, 0, 13, 0, 0, 1, 0, 0, 35, 0, 37, 0, 0, 0, 9,
-    10, 0, 0, 13, 0, 0,
-];
+const MARKED: [u8; 16] = [1, 0, 0, 35, 0, 37, 0, 0, 0, 9, 10, 0, 0, 13, 0, 0];
 
 /// The marks of 64 bytes: bit k is set where byte k is one. If they are `sparse`, one comparison first shows whether all bytes are
 /// greater than `%`, as symbols of base64 are. Then there are no marks.
@@ -24,7 +19,7 @@ pub(super) fn marks_of(bytes: u8x64, sparse: bool) -> u64
     if sparse && !bytes.simd_le(u8x64::splat(b'%')).any() {
         return 0;
     }
-    u8x64::from_array(MARKED)
+    repeated(row(&MARKED, 0))
         .swizzle_dyn_within::<16>(bytes & u8x64::splat(15))
         .simd_eq(bytes)
         .to_bitmask()

@@ -5,9 +5,9 @@ ghost use Rattle.std.specs.Prelude.{◌≡◌, ◌≤◌, IsTrue, length, map, n
 ghost use Rattle.std.specs.List.{list_all, prefix_len};
 ghost use Rattle.std.specs.Simd.Lanes.{mask_l};
 ghost use Rattle.data_url.specs.Base64.{group_bytes, group_number, groups, is_symbol, symbol_value};
-ghost use Rattle.data_url.specs.Steps.{Groups.{is_symbol_or_space}, Lanes.{DecodesFront, number_bytes, numbers, value_of}};
+ghost use Rattle.data_url.specs.Steps.{Groups.{is_symbol_or_space}, Lanes.{DecodesFront, number_bytes, numbers, twelves, value_of}};
 
-use crate::classes::lanes::{is_block_unmarked, is_unmarked, marks, put, row};
+use crate::classes::lanes::{is_block_unmarked, is_unmarked, marks, put, repeated, row};
 use std::simd::prelude::*;
 
 /// The value of each symbol, by its byte, and 64 for other bytes.
@@ -25,12 +25,9 @@ const VALUES: [u8; 256] = [
     64, 64, 64, 64, 64, 64, 64, 64, 64, 64, 64, 64, 64, 64,
 ];
 
-/// The class of the symbols, once for each sixteen lanes: for each low half of a byte, the bits of the columns in which it is none.
-const SYMBOLS: [u8; 64] = [
-    171, 131, 131, 131, 131, 131, 131, 131, 131, 131, 135, 213, 215, 215, 215, 213, 171, 131, 131,
-    131, 131, 131, 131, 131, 131, 131, 135, 213, 215, 215, 215, 213, 171, 131, 131, 131, 131, 131,
-    131, 131, 131, 131, 135, 213, 215, 215, 215, 213, 171, 131, 131, 131, 131, 131, 131, 131, 131,
-    131, 135, 213, 215, 215, 215, 213,
+/// The class of the symbols: for each low half of a byte, the bits of the columns in which it is none.
+const SYMBOLS: [u8; 16] = [
+    171, 131, 131, 131, 131, 131, 131, 131, 131, 131, 135, 213, 215, 215, 215, 213,
 ];
 
 /// The class of symbols and white space.
@@ -38,26 +35,14 @@ const SPACED: [u8; 16] = [
     169, 131, 131, 131, 131, 131, 131, 131, 131, 130, 134, 213, 214, 214, 215, 213,
 ];
 
-/// Has, for each high half of a symbol (1 for '/'), a number: the symbol plus it is the value, modulo 256. Once for each row.
-const OFFSETS: [u8; 64] = [
-    0, 16, 19, 4, 191, 191, 185, 185, 0, 0, 0, 0, 0, 0, 0, 0, 0, 16, 19, 4, 191, 191, 185, 185, 0,
-    0, 0, 0, 0, 0, 0, 0, 0, 16, 19, 4, 191, 191, 185, 185, 0, 0, 0, 0, 0, 0, 0, 0, 0, 16, 19, 4,
-    191, 191, 185, 185, 0, 0, 0, 0, 0, 0, 0, 0,
-];
+/// Has, for each high half of a symbol (1 for '/'), a number: the symbol plus it is the value, modulo 256.
+const OFFSETS: [u8; 16] = [0, 16, 19, 4, 191, 191, 185, 185, 0, 0, 0, 0, 0, 0, 0, 0];
 
 /// The weights of the first two values of a group, in half a number.
-const UPPER_WEIGHTS: [u8; 64] = [
-    64, 1, 0, 0, 64, 1, 0, 0, 64, 1, 0, 0, 64, 1, 0, 0, 64, 1, 0, 0, 64, 1, 0, 0, 64, 1, 0, 0, 64,
-    1, 0, 0, 64, 1, 0, 0, 64, 1, 0, 0, 64, 1, 0, 0, 64, 1, 0, 0, 64, 1, 0, 0, 64, 1, 0, 0, 64, 1,
-    0, 0, 64, 1, 0, 0,
-];
+const UPPER_WEIGHTS: [u8; 16] = [64, 1, 0, 0, 64, 1, 0, 0, 64, 1, 0, 0, 64, 1, 0, 0];
 
 /// The weights of the last two values of a group, in half a number.
-const LOWER_WEIGHTS: [u8; 64] = [
-    0, 0, 64, 1, 0, 0, 64, 1, 0, 0, 64, 1, 0, 0, 64, 1, 0, 0, 64, 1, 0, 0, 64, 1, 0, 0, 64, 1, 0,
-    0, 64, 1, 0, 0, 64, 1, 0, 0, 64, 1, 0, 0, 64, 1, 0, 0, 64, 1, 0, 0, 64, 1, 0, 0, 64, 1, 0, 0,
-    64, 1, 0, 0, 64, 1,
-];
+const LOWER_WEIGHTS: [u8; 16] = [0, 0, 64, 1, 0, 0, 64, 1, 0, 0, 64, 1, 0, 0, 64, 1];
 
 /// Whether a byte is a symbol.
 pub(crate) fn is_symbol(byte: u8) -> bool
@@ -124,71 +109,41 @@ pub(crate) fn is_spaced(bytes: u8x16) -> bool
     marks(&SPACED, bytes) == 0
 }
 
-/// The value of each symbol of a row. A byte that is no symbol has some value too.
-#[inline(always)]
-fn values_of_row(bytes: u8x16) -> u8x16
-    ensures { result ≡ map value_of bytes }
-{
-    let is_slash = bytes.simd_eq(u8x16::splat(b'/'));
-    let rows = (bytes >> u8x16::splat(4)) + is_slash.select(u8x16::splat(255), u8x16::splat(0));
-    bytes + row(&OFFSETS, 0).swizzle_dyn(rows)
-}
-
 /// The value of each symbol of a block. A byte that is no symbol has some value too.
 #[inline(always)]
-fn values_of_block(bytes: u8x64) -> u8x64
+fn values_of(bytes: u8x64) -> u8x64
     ensures { result ≡ map value_of bytes }
 {
     let is_slash = bytes.simd_eq(u8x64::splat(b'/'));
     let rows = (bytes >> u8x64::splat(4)) + is_slash.select(u8x64::splat(255), u8x64::splat(0));
-    bytes + u8x64::from_array(OFFSETS).swizzle_dyn_within::<16>(rows)
-}
-
-/// The number of each group of four values of a row.
-#[inline(always)]
-fn numbers_of_row(values: u8x16) -> u32x4
-    ensures { result ≡ numbers values }
-{
-    let upper = values.dot4(row(&UPPER_WEIGHTS, 0));
-    let lower = values.dot4(row(&LOWER_WEIGHTS, 0));
-    (upper << u32x4::splat(12)) + lower
+    bytes + repeated(row(&OFFSETS, 0)).swizzle_dyn_within::<16>(rows)
 }
 
 /// The number of each group of four values of a block.
 #[inline(always)]
-fn numbers_of_block(values: u8x64) -> u32x16
+fn numbers_of(values: u8x64) -> u32x16
     ensures { result ≡ numbers values }
 {
-    let upper = values.dot4(u8x64::from_array(UPPER_WEIGHTS));
-    let lower = values.dot4(u8x64::from_array(LOWER_WEIGHTS));
+    let upper = values.dot4(repeated(row(&UPPER_WEIGHTS, 0)));
+    let lower = values.dot4(repeated(row(&LOWER_WEIGHTS, 0)));
     (upper << u32x16::splat(12)) + lower
 }
 
-/// The three lowest bytes of each number of a row, the most significant one first, and then bytes without meaning.
-#[inline(always)]
-fn bytes_of_row(numbers: u32x4) -> u8x16
-    ensures len { length result ≡ 16 }
-    ensures bytes { take 12 result ≡ number_bytes numbers }
-{
-    numbers
-        .to_le_bytes()
-        .swizzle([2, 1, 0, 6, 5, 4, 10, 9, 8, 14, 13, 12, 15, 15, 15, 15])
-}
-
-/// The places of the bytes of sixteen groups in those of their numbers, and then places without meaning.
-const PLACES: [usize; 64] = [
-    2, 1, 0, 6, 5, 4, 10, 9, 8, 14, 13, 12, 18, 17, 16, 22, 21, 20, 26, 25, 24, 30, 29, 28, 34, 33,
-    32, 38, 37, 36, 42, 41, 40, 46, 45, 44, 50, 49, 48, 54, 53, 52, 58, 57, 56, 62, 61, 60, 63, 63,
-    63, 63, 63, 63, 63, 63, 63, 63, 63, 63, 63, 63, 63, 63,
+/// The places of the bytes of four groups in those of their numbers, and then places without meaning. So for each row.
+const BYTES: [usize; 64] = [
+    2, 1, 0, 6, 5, 4, 10, 9, 8, 14, 13, 12, 15, 15, 15, 15, 18, 17, 16, 22, 21, 20, 26, 25, 24, 30,
+    29, 28, 31, 31, 31, 31, 34, 33, 32, 38, 37, 36, 42, 41, 40, 46, 45, 44, 47, 47, 47, 47, 50, 49,
+    48, 54, 53, 52, 58, 57, 56, 62, 61, 60, 63, 63, 63, 63,
 ];
 
-/// The three lowest bytes of each number of a block, the most significant one first, and then bytes without meaning.
+/// The three lowest bytes of each number of a block, the most significant one first: twelve in each row, and then four bytes
+/// without meaning.
 #[inline(always)]
-fn bytes_of_block(numbers: u32x16) -> u8x64
+fn bytes_of(numbers: u32x16) -> u8x64
     ensures len { length result ≡ 64 }
-    ensures bytes { take 48 result ≡ number_bytes numbers }
+    ensures bytes { twelves result ≡ number_bytes numbers }
 {
-    numbers.to_le_bytes().swizzle(PLACES)
+    numbers.to_le_bytes().swizzle(BYTES)
 }
 
 /// The bytes of the groups of symbols that a row begins with, and then bytes without meaning.
@@ -197,8 +152,15 @@ pub(crate) fn decode_row(bytes: u8x16) -> u8x16
     ensures len { length result ≡ 16 }
     ensures bytes { DecodesFront bytes result }
 {
-    bytes_of_row(numbers_of_row(values_of_row(bytes)))
+    bytes_of(numbers_of(values_of(repeated(bytes)))).extract::<0, 16>()
 }
+
+/// The places of the first twelve bytes of each row, and then places without meaning.
+const TWELVES: [usize; 64] = [
+    0, 1, 2, 3, 4, 5, 6, 7, 8, 9, 10, 11, 16, 17, 18, 19, 20, 21, 22, 23, 24, 25, 26, 27, 32, 33,
+    34, 35, 36, 37, 38, 39, 40, 41, 42, 43, 48, 49, 50, 51, 52, 53, 54, 55, 56, 57, 58, 59, 63, 63,
+    63, 63, 63, 63, 63, 63, 63, 63, 63, 63, 63, 63, 63, 63,
+];
 
 /// The bytes of the sixteen groups of a block of symbols.
 #[inline(always)]
@@ -206,7 +168,7 @@ pub(crate) fn decode_block(bytes: u8x64) -> [u8; 48]
     requires { IsTrue (list_all is_symbol bytes) }
     ensures { result ≡ groups (map symbol_value bytes) }
 {
-    let decoded = bytes_of_block(numbers_of_block(values_of_block(bytes)));
+    let decoded = bytes_of(numbers_of(values_of(bytes))).swizzle(TWELVES);
     let mut joined = [0; 48];
     put(&mut joined, 0, decoded.extract::<0, 16>());
     put(&mut joined, 16, decoded.extract::<16, 16>());

@@ -11,7 +11,7 @@ returns-in-Err g c = rw c.into_closure.ensures
 
 pub from_place-pieces-requires-clause-no_hash : goal.from_place-pieces-requires-clause-no_hash
 from_place-pieces-requires-clause-no_hash g c =
-    front_fragment c.args.tail.now c.in-Ok.place (rw c.as_bytes.ensures.value at c.in-Ok.ensures.fed).plain
+    front_fragment c.args.tail.now c.in-Ok.place (rw c.as_bytes.ensures.value at c.in-Ok.ensures.fed).0.plain
 
 pub take_rest-requires-clause-callable : goal.take_rest-requires-clause-callable
 take_rest-requires-clause-callable g c = λ run h ran n bytes.
@@ -33,14 +33,14 @@ returns-in-Ok-take_rest g c =
     c.finish_with-ended.result.1 = search (rules, name) in
     let mapped : MatchResult c.finish_with-ended.result.0 (λ x. c.map.result ≡ Ok c.in-Ok-take_rest.place)
     (λ e. c.map.result ≡ Err e) = search rules in
-    let front = rw c.as_bytes.ensures.value at c.in-Ok.ensures.fed in
+    let front = (rw c.as_bytes.ensures.value at c.in-Ok.ensures.fed).0 in
     fed_ended (CalledAt g.F.FnMut) (λ p. state_of p.0.now) (λ p piece r q k. search rules) c.new-decoder.ensures.state
     front c.from_place-pieces.ensures c.take_rest.ensures c.in-Ok-take_rest.is ended mapped
 
 pub returns-in-Err-take_rest : goal.returns-in-Err-take_rest
 returns-in-Err-take_rest g c =
     let name = run_keeps _ (λ p. p.0.ghost_name) (λ p piece r q k. search rules) _ _ _ c.take_rest.ensures.ran in
-    let front = rw c.as_bytes.ensures.value at c.in-Ok.ensures.fed in
+    let front = (rw c.as_bytes.ensures.value at c.in-Ok.ensures.fed).0 in
     let refused = fed_refused (CalledAt g.F.FnMut) (λ p. state_of p.0.now) (λ p piece r q k. search rules)
     c.new-decoder.ensures.state front c.from_place-pieces.ensures c.take_rest.ensures c.in-Err-take_rest.is in
     search (rules, refused)

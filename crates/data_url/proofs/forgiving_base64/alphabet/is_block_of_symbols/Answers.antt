@@ -2,13 +2,9 @@ use Rattle.std.proofs.Common.{◌∙◌, not, refl}
 use Rattle.std.proofs.lemmas.Bool.{agree_below_at}
 use Rattle.data_url.specs.{Base64.{is_symbol}, Steps.Classes.{is_marked}}
 use Rattle.data_url.specs.declared.forgiving_base64.alphabet.TheConstants.{SYMBOLS}
-use Rattle.std.proofs.Common.{arith}
-use Rattle.data_url.proofs.forgiving_base64.{Vectors.{all_agree}, Lanes.{repeats}}
+use Rattle.data_url.proofs.forgiving_base64.Vectors.{all_agree}
 use Rattle.data_url.proofs.forgiving_base64.alphabet.is_block_of_symbols.Goals as goal
 
 pub returns : goal.returns
 returns c = c.is_block_unmarked.ensures ∙ all_agree (λ b. not (is_marked SYMBOLS b)) is_symbol
     (λ b l. agree_below_at (λ b. not (is_marked SYMBOLS b)) is_symbol 256 b refl l) c.args.bytes c.fits-bytes.1
-
-pub is_block_unmarked-requires : goal.is_block_unmarked-requires
-is_block_unmarked-requires c = repeats SYMBOLS 64 (omega arith) refl (omega arith)
