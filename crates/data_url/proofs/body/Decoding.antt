@@ -1,36 +1,30 @@
 -- A closure or a decoder that gets a body piece by piece. For `take_rest`,
 -- `decode_base64`, `decode_plain` and their callers.
-use Rattle.std.proofs.Common.{Result, Ok, Err, refl, sym, ap, ◌∙◌, append_assoc, arith, length-append, Bool}
-use Rattle.std.{proofs.Common.{MatchBool}, proofs.lemmas.List.{length-map}}
-use Rattle.std.proofs.Common.{Some, false, cond, length-drop, length-take, MatchOption, MatchResult}
-use Rattle.std.proofs.Common.{true, append-nil, ◌≡◌, ℕ, ◌+◌, ◌≤◌, List, [], ◌∷◌, ◌++◌, Bor, length, Option, None}
-use Rattle.std.{specs.Fn.{CalledAt, Mut, always_mut}}
+use Rattle.std.proofs.Common.{Result, Ok, Err, refl, sym, ap, ◌∙◌, append_assoc, arith, length-append, Bool, MatchBool}
+use Rattle.std.proofs.Common.{Some, false, cond, length-drop, length-take, MatchOption, MatchResult, true, append-nil}
+use Rattle.std.proofs.Common.{◌≡◌, ℕ, ◌+◌, ◌≤◌, List, [], ◌∷◌, ◌++◌, Bor, length, Option, None, drop, take, inl, inr}
+use Rattle.std.proofs.Common.{◌==◌, not, length-take-le, take-append-drop, take-take, take-add, ◌-◌, ◌<◌, ◌&&◌, ap₂}
+use Rattle.std.{proofs.Common.{get_or, get_or-take, get_or-drop, subst}, proofs.lemmas.Bool.{and_parts, cases_Bool}}
+use Rattle.std.{proofs.lemmas.List.{length-map}, proofs.lemmas.List.Folds.{list_all-append}}
+use Rattle.std.{specs.Char.{is_ascii_whitespace}, specs.Fn.{CalledAt, Mut, always_mut}, specs.List.{list_all}}
 use Rattle.data_url.specs.Base64.{decoded, complete_bytes, kind_of, after_groups, groups, rest_bytes, values}
-use Rattle.data_url.specs.Base64.{without_whitespace}
-use Rattle.data_url.proofs.forgiving_base64.Padding.{decoded_alike, done_alike, kind_alike, valid_alike}
-use Rattle.data_url.specs.{DataUrl.{Decodes, HandsOut, IsUrlOf, url_body, url_tail}, Steps.Tail.{IsBodyEnd}}
-use Rattle.data_url.specs.{Decoder.{Feeds, Finishes, State, start}, Run.{Call, IsRun, joined_pieces, refusal, IsPrefix}}
-use Rattle.data_url.specs.{Errors.{IsRefused}, Fetch.{Good, outcome_bytes, plain_body, Bad, outcome, Outcome, tail_of}}
-use Rattle.data_url.specs.{Pieces.{Walk}, declared.DataUrl.{DataUrl}}
-use Rattle.data_url.specs.Steps.Chunks.{IsBodyFrom, IsBodyPrefix, IsCallableUntilError, Takes, TakesOn, TakesRest}
-use Rattle.data_url.specs.Steps.{Holding.{FeedsFront, RefusesUnescaped}, Window.{is_plain}}
-use Rattle.data_url.specs.Url.{is_tab_or_newline, number_sign}
-use Rattle.std.{proofs.lemmas.Bool.{and_parts, cases_Bool}, specs.Char.{is_ascii_whitespace}, specs.List.{list_all}}
-use Rattle.std.proofs.Common.{drop, take, inl, inr, ◌==◌, not, length-take-le, take-append-drop, take-take, take-add}
-use Rattle.std.proofs.Common.{◌-◌, ◌<◌, ◌&&◌, ap₂, get_or, get_or-take, get_or-drop, subst}
-use Rattle.std.proofs.lemmas.List.Folds.{list_all-append}
-use Rattle.data_url.proofs.escapes.{EscapeDigits.{begins_other, cleaned_keeps, cleaned_passes}, Reading.{decoded_byte}}
-use Rattle.data_url.proofs.escapes.Reading.{plain_is}
-use Rattle.data_url.proofs.{texts.Bytes.{after_other}}
-use Rattle.data_url.specs.Steps.Digits.{cleaned}
-use Rattle.data_url.specs.{Steps.Whole.{DecodesText}, declared.forgiving_base64.DecodeError.{DecodeError}}
-use Rattle.data_url.specs.Url.{after, trimmed_text}
+use Rattle.data_url.specs.{Base64.{without_whitespace}, DataUrl.{Decodes, HandsOut, IsUrlOf, url_body, url_tail}}
+use Rattle.data_url.specs.{Decoder.{Feeds, Finishes, State, start}, Errors.{IsRefused}, Fetch.{Good, outcome_bytes}}
+use Rattle.data_url.specs.{Fetch.{plain_body, Bad, outcome, Outcome, tail_of}, Pieces.{Walk}, Run.{Call, IsRun}}
+use Rattle.data_url.specs.{Run.{joined_pieces, refusal, IsPrefix}, Steps.Chunks.{IsBodyFrom, IsBodyPrefix}}
+use Rattle.data_url.specs.{Steps.Chunks.{IsCallableUntilError, Takes, TakesOn, TakesRest}, Steps.Digits.{cleaned}}
+use Rattle.data_url.specs.{Steps.Holding.{FeedsFront}, Steps.Tail.{IsBodyEnd}, Steps.Whole.{DecodesText}}
+use Rattle.data_url.specs.{Steps.Window.{is_plain}, Url.{is_tab_or_newline, number_sign, after, trimmed_text}}
+use Rattle.data_url.specs.{declared.DataUrl.{DataUrl}, declared.forgiving_base64.DecodeError.{DecodeError}}
 use Rattle.data_url.specs.declared.forgiving_base64.DecodeError.TheVariants.{WriteError, InvalidBase64}
-use Rattle.data_url.proofs.forgiving_base64.Groups.{groups_length, filter_length}
+use Rattle.data_url.proofs.escapes.EscapeDigits.{begins_other, cleaned_keeps, cleaned_passes}
+use Rattle.data_url.proofs.{escapes.Reading.{decoded_byte, plain_is}, forgiving_base64.Groups.{groups_length}}
+use Rattle.data_url.proofs.{forgiving_base64.Groups.{filter_length}, forgiving_base64.Padding.{decoded_alike}}
+use Rattle.data_url.proofs.forgiving_base64.Padding.{done_alike, kind_alike, valid_alike}
 use Rattle.data_url.proofs.forgiving_base64.Steps.{feeds_err, feeds_then}
-use Rattle.data_url.proofs.forgiving_base64.WholeTexts.{decodes_finished, decodes_refused}
-use Rattle.data_url.proofs.{runs.Runs.{run-append, run_ends, run_keeps, run_preserves}, texts.Bytes.{is_cut}}
-use Rattle.data_url.proofs.runs.Runs.{prefix_after, joined_pieces-append, match_at, refusal-append}
+use Rattle.data_url.proofs.{forgiving_base64.WholeTexts.{decodes_finished, decodes_refused}, runs.Runs.{run-append}}
+use Rattle.data_url.proofs.runs.Runs.{run_ends, run_keeps, run_preserves, prefix_after, joined_pieces-append, match_at}
+use Rattle.data_url.proofs.{runs.Runs.{refusal-append}, texts.Bytes.{after_other, is_cut}}
 use denote.Param.Always.{mut_next}
 pub use Rattle.data_url.proofs.escapes.Reading.{body_shorter}
 
@@ -292,39 +286,26 @@ module _ {F E : Type 0} (step : F → List ℕ → Result (Unit {0}) E → F →
   outcome_of {f} {g} {text} {u} place r e d b =
       rw (outcome_alike (plain_body text) u e.alike) (outcome_whole place r e.few d b)
 
-  -- after the front of a tail, a decoder is fed a stretch of it
-  pub front_more : {d d1 d2 : State F} {tail stretch : List ℕ} (at m n : ℕ) → stretch ≡ take m (drop at tail)
-      → FeedsFront step d tail at d1 → FeedsFront step d1 stretch n d2 → FeedsFront step d tail (at + n) d2
-  front_more {d} {d2 = d2} {tail} {stretch} at m n is k h =
+  -- after the front of a tail, a decoder is fed some of a stretch of it
+  pub front_more : {d d1 d2 : State F} {tail stretch : List ℕ} {r : Result (Unit {0}) (DecodeError E)} (at m n : ℕ)
+      → stretch ≡ take m (drop at tail) → FeedsFront step d tail at (Ok tt) d1 → FeedsFront step d1 stretch n r d2
+      → FeedsFront step d tail (at + n) r d2
+  front_more {d} {d2 = d2} {tail} {stretch} {r} at m n is k h =
       let joined = in_stretch tail at m n h.within is in
       record {
         within = omega (arith, k.within, h.within, (stretch_within tail at m is).1);
         plain = subst (λ t. list_all is_plain t ≡ true) joined
             (list_all-append is_plain (take at tail) (take n stretch) ∙ ap₂ (λ a b. a && b) k.plain h.plain);
-        feeds = subst (λ t. Feeds step d t (Ok tt) d2) joined (feeds_then step k.feeds h.feeds);
-      }
-
-  -- and the stretch has a fault, or the closure returned an error
-  pub front_fails : {d d1 d2 : State F} {tail stretch : List ℕ} {x : DecodeError E} (at m : ℕ)
-      → stretch ≡ take m (drop at tail) → FeedsFront step d tail at d1 → RefusesUnescaped step d1 stretch x d2
-      → RefusesUnescaped step d tail x d2
-  front_fails {d} {d2 = d2} {tail} {stretch} {x} at m is k h =
-      let joined = in_stretch tail at m h.at h.within is in
-      record {
-        at = at + h.at;
-        within = omega (arith, k.within, h.within, (stretch_within tail at m is).1);
-        plain = subst (λ t. list_all is_plain t ≡ true) joined
-            (list_all-append is_plain (take at tail) (take h.at stretch) ∙ ap₂ (λ a b. a && b) k.plain h.plain);
-        feeds = subst (λ t. Feeds step d t (Err x) d2) joined (feeds_then step k.feeds h.feeds);
+        feeds = subst (λ t. Feeds step d t r d2) joined (feeds_then step k.feeds h.feeds);
       }
 
   -- the front of a tail has a fault, or the closure returned an error
   pub front_refused : {f : F} {d d' : State F} {tail : List ℕ} {x : DecodeError E} → d ≡ start f
-      → RefusesUnescaped step d tail x d'
+      → (place : ℕ) × FeedsFront step d tail place (Err x) d'
       → Decodes step f (length tail + 1) (outcome true (plain_body tail)) (IsBodyEnd tail) (Err x) d'.closure
   front_refused {tail = tail} {x = x} e h =
-      let fed = feeds_err step (plain_body (drop h.at tail)) (rw e at h.feeds) in
-      outcome_of 0 (Err x) (front_body tail h.at h.within h.plain) (decodes_refused step refl fed) (λ e. absurd (cc))
+      let fed = feeds_err step (plain_body (drop h.0 tail)) (rw e at h.1.feeds) in
+      outcome_of 0 (Err x) (front_body tail h.0 h.1.within h.1.plain) (decodes_refused step refl fed) (λ e. absurd (cc))
 
 module _ {C F E : Type 0} {outer : C → List ℕ → Result (Unit {0}) (DecodeError E) → C → Type 0}
     (step : F → List ℕ → Result (Unit {0}) E → F → Type 0) (state : C → State F)
@@ -344,7 +325,7 @@ module _ {C F E : Type 0} {outer : C → List ℕ → Result (Unit {0}) (DecodeE
 
   -- after the front of a tail, a closure that feeds the decoder takes the rest of the body up to an error
   pub fed_refused : {f : F} {c c' : C} {d : State F} {tail : List ℕ} {place : ℕ} {w : Walk}
-      {r : Result ℕ (DecodeError E)} {x : DecodeError E} → d ≡ start f → FeedsFront step d tail place (state c)
+      {r : Result ℕ (DecodeError E)} {x : DecodeError E} → d ≡ start f → FeedsFront step d tail place (Ok tt) (state c)
       → IsBodyFrom tail place w → TakesRest outer c w r c' → r ≡ Err x
       → Decodes step f (length tail + 1) (outcome true (plain_body tail)) (IsBodyEnd tail) (Err x) (state c').closure
   fed_refused {f} {c} {c'} {d} {tail} {place} {w} {r} {x} s front from took e =
@@ -360,7 +341,8 @@ module _ {C F E : Type 0} {outer : C → List ℕ → Result (Unit {0}) (DecodeE
   -- then it takes the whole body, and the decoder is finished
   pub fed_ended : {f g : F} {c c' : C} {d : State F} {tail : List ℕ} {place end : ℕ} {w : Walk}
       {r : Result ℕ (DecodeError E)} {p : Result (Unit {0}) (DecodeError E)} {q : Result ℕ (DecodeError E)}
-      → d ≡ start f → FeedsFront step d tail place (state c) → IsBodyFrom tail place w → TakesRest outer c w r c'
+      → d ≡ start f → FeedsFront step d tail place (Ok tt) (state c) → IsBodyFrom tail place w
+      → TakesRest outer c w r c'
       → r ≡ Ok end → Finishes step (state c') p g → MatchResult p (λ x. q ≡ Ok end) (λ e. q ≡ Err e)
       → Decodes step f (length tail + 1) (outcome true (plain_body tail)) (IsBodyEnd tail) q g
   fed_ended {f} {g} {c} {c'} {d} {tail} {place} {end} {w} {r} {p} {q} s front from took e ended m =

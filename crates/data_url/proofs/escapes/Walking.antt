@@ -1,28 +1,26 @@
 -- The pieces of a walk, and the bytes that it gathers. For `Cursor` and `Pieces`.
 use Rattle.std.proofs.Common.{Some, refl, sym, ap, ◌∙◌, inl, inr, arith, length-append, Bool, ◌≢◌, Option, ◌*◌, cond}
 use Rattle.std.proofs.Common.{drop-drop, length-drop, append-nil, ◌≡◌, ℕ, ◌+◌, ◌-◌, ◌<◌, ◌≤◌, true, List, [], ◌∷◌, ◌++◌}
-use Rattle.std.proofs.Common.{length, take, drop, get_or, None, length-take-le, set, append_assoc}
-use Rattle.std.{proofs.Common.{take-add, slice_range}, proofs.lemmas.Str.{IsCharBoundary-after_ascii}}
-use Rattle.std.proofs.lemmas.List.Folds.{drop_split}
-use Rattle.std.proofs.lemmas.List.{drop_more, drop_all, take_more_set, append_cancel_right}
-use Rattle.data_url.specs.{Fetch.{plain_body}, Steps.Digits.{EscapeAt, cleaned}, declared.escapes.Piece.{Piece}}
-use Rattle.data_url.specs.Pieces.{Walk, text_of, IsStretch, bytes_of, has_ended, is_slice_end, walk_of}
-use Rattle.data_url.proofs.escapes.Reading.{spells_byte, spells_passed}
-use Rattle.data_url.specs.Steps.Chunks.{IsBodyPrefix, IsOver, Takes}
-use Rattle.data_url.proofs.escapes.Reading.{body_shorter}
-use Rattle.data_url.specs.Steps.Tail.{BeginsFragment, IsBodyEnd, rest_fragment}
+use Rattle.std.proofs.Common.{length, take, drop, get_or, None, length-take-le, set, append_assoc, take-add}
+use Rattle.std.{proofs.Common.{slice_range}, proofs.lemmas.List.{drop_more, drop_all, take_more_set}}
+use Rattle.std.{proofs.lemmas.List.{append_cancel_right}, proofs.lemmas.List.Folds.{drop_split}}
+use Rattle.std.proofs.lemmas.Str.{IsCharBoundary-after_ascii}
+use Rattle.data_url.specs.{Fetch.{plain_body}, Pieces.{Walk, text_of, IsStretch, bytes_of, has_ended, is_slice_end}}
+use Rattle.data_url.specs.{Pieces.{walk_of}, Steps.Chunks.{IsBodyPrefix, IsOver, Takes}, Steps.Digits.{EscapeAt}}
+use Rattle.data_url.specs.{Steps.Digits.{cleaned}, Steps.Tail.{BeginsFragment, IsBodyEnd, rest_fragment}}
 use Rattle.data_url.specs.Steps.Walk.{Ended, EndsAt, Gathers, GoesOn, IsClear, IsNextMark, IsPart, Knows, KnowsAhead}
-use Rattle.data_url.specs.Steps.Walk.{Looking, LooksOn, MayGather, Pays, Reads, Searching, Spells}
-use Rattle.data_url.specs.{Url.{before, after, front, without_tabs_and_newlines}, declared.escapes.cursor.Ahead.{Ahead}}
-use Rattle.data_url.specs.{declared.escapes.Piece.TheVariants.{Byte, Slice}, declared.escapes.cursor.Cursor.{Cursor}}
+use Rattle.data_url.specs.{Steps.Walk.{Looking, LooksOn, MayGather, Pays, Reads, Searching, Spells}, Url.{before}}
+use Rattle.data_url.specs.{Url.{after, front, without_tabs_and_newlines}, declared.escapes.Piece.{Piece}}
+use Rattle.data_url.specs.{declared.escapes.Piece.TheVariants.{Byte, Slice}, declared.escapes.cursor.Ahead.{Ahead}}
 use Rattle.data_url.specs.declared.escapes.cursor.Ahead.TheVariants.{AfterEscape, End, Escape, Unknown}
-use Rattle.data_url.specs.{declared.escapes.source.Source.{Source}, declared.escapes.marks.Block.{Block}}
+use Rattle.data_url.specs.{declared.escapes.cursor.Cursor.{Cursor}, declared.escapes.marks.Block.{Block}}
+use Rattle.data_url.specs.declared.escapes.source.Source.{Source}
 use Rattle.data_url.proofs.escapes.BlockMarks.{copied_wide, looking_on, marks_padded, padded_is}
-use Rattle.data_url.proofs.escapes.Reading.{ends_empty, paid_le, paid_on}
+use Rattle.data_url.proofs.escapes.Reading.{spells_byte, spells_passed, body_shorter, ends_empty, paid_le, paid_on}
 use Rattle.data_url.proofs.escapes.Reading.{percent_nil, spells_clear, spells_escape, spells_none, spells_then}
-use Rattle.data_url.proofs.{percent.Encoding.{decoded_escape}, runs.Runs.{none_or_some}}
-use Rattle.data_url.proofs.texts.Bytes.{after_same, after-dropped_none, before-append, is_cut}
-use Rattle.data_url.proofs.texts.Bytes.{without_tabs_and_newlines-append, before_all, after_at, after_nil}
+use Rattle.data_url.proofs.{percent.Encoding.{decoded_escape}, runs.Runs.{none_or_some}, texts.Bytes.{after_same}}
+use Rattle.data_url.proofs.texts.Bytes.{after-dropped_none, before-append, is_cut, without_tabs_and_newlines-append}
+use Rattle.data_url.proofs.texts.Bytes.{before_all, after_at, after_nil}
 
 -- two ranges, of which the second begins where the first ends, are one range
 slice_join : (text : List ℕ) (a b c : ℕ) → a ≤ b → b ≤ c → slice_range text a b ++ slice_range text b c

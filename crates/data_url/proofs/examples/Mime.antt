@@ -1,11 +1,10 @@
 -- MIME types with their records and printed texts, by computation.
 use Rattle.std.proofs.Common.{arith, map, IsTrue, ◌≡◌, ℕ, true, List, [], ◌∷◌, ◌++◌, inr, codes, eq-eqb, length, refl}
-use Rattle.std.proofs.Common.{sym}
-use Rattle.std.specs.{Char.{to_ascii_lowercase}, List.{list_all}}
+use Rattle.std.{proofs.Common.{sym}, specs.Char.{to_ascii_lowercase}, specs.List.{list_all}}
 use Rattle.data_url.specs.{CodePoints.{is_http_whitespace}, Mime.{Parses, Record, default_record, is_token_text}}
 use Rattle.data_url.specs.Mime.{kept_pairs, printed, BeginsParameters, HasNoRecord, IsRecordOf, Pair}
-use Rattle.data_url.proofs.{examples.Literals.{on_literals}, mime.{TokenTexts.{every_from_all}, Items.{has_items}}}
-use Rattle.data_url.proofs.mime.Items.{has_parts, items_in, parameters_in, subtype_in, trimmed_of, type_in}
+use Rattle.data_url.proofs.{examples.Literals.{on_literals}, mime.Items.{has_items, has_parts, items_in, parameters_in}}
+use Rattle.data_url.proofs.{mime.Items.{subtype_in, trimmed_of, type_in}, mime.TokenTexts.{every_from_all}}
 
 -- Texts with a record
 

@@ -1,19 +1,17 @@
 -- Groups of four symbols, and texts that are fed in two parts.
-use Rattle.std.proofs.Common.{sym, get_or, take, drop, refl, ap, ap₂, arith, length-take}
-use Rattle.std.proofs.Common.{get_or-take, take-append-drop, append-nil, take-take, take_at}
-use Rattle.std.proofs.Common.{drop-drop, length-drop}
-use Rattle.std.proofs.Common.{length-take-le, ◌∙◌, false, min, None, take-add, append_assoc, length-append, ◌/◌}
-use Rattle.std.proofs.Common.{◌≡◌, ℕ, Bool, ◌+◌, ◌*◌, ◌≤◌, true, ◌&&◌, ◌||◌, List, [], ◌∷◌, ◌++◌, map, length, ◌-◌}
-use Rattle.std.proofs.Common.{replicate, zero, suc}
-use Rattle.std.{proofs.Math.Seq.{take-append-add}, proofs.lemmas.Bool.{and_parts}, specs.Char.{is_ascii_whitespace}}
+use Rattle.std.proofs.Common.{sym, get_or, take, drop, refl, ap, ap₂, arith, length-take, get_or-take, take-append-drop}
+use Rattle.std.proofs.Common.{append-nil, take-take, take_at, drop-drop, length-drop, length-take-le, ◌∙◌, false, min}
+use Rattle.std.proofs.Common.{None, take-add, append_assoc, length-append, ◌/◌, ◌≡◌, ℕ, Bool, ◌+◌, ◌*◌, ◌≤◌, true, ◌&&◌}
+use Rattle.std.proofs.Common.{◌||◌, List, [], ◌∷◌, ◌++◌, map, length, ◌-◌, replicate, zero, suc}
+use Rattle.std.{proofs.Math.Seq.{take-append-add}, proofs.lemmas.Bool.{and_parts}, proofs.lemmas.List.{length-map}}
+use Rattle.std.proofs.lemmas.List.{take_rest, map-append, length-replicate, take-append-le}
 use Rattle.std.{proofs.lemmas.List.Elements.{filter-append}, proofs.lemmas.List.Folds.{list_all-append}}
 use Rattle.std.proofs.lemmas.List.Sums.{list_all-from_AllPass, prefix_len-le-length, prefix_len_passes}
-use Rattle.std.proofs.lemmas.List.{length-map, take_rest, map-append, length-replicate, take-append-le}
-use Rattle.std.specs.List.{list_all, prefix_len, filter, list_any}
-use Rattle.data_url.specs.Base64.{decoded, first_fault, left_padding, left_symbols, left_text}
-use Rattle.data_url.specs.Base64.{group_bytes, group_number, groups, is_symbol, symbol_value, values, after_groups}
-use Rattle.data_url.specs.{Laws.{GoesOn, TwoFeeds}, Steps.Lanes.{DecodesFront}}
-use Rattle.data_url.specs.Steps.Groups.{Fills, IsOverGap, is_symbol_or_space}
+use Rattle.std.{specs.Char.{is_ascii_whitespace}, specs.List.{list_all, prefix_len, filter, list_any}}
+use Rattle.data_url.specs.Base64.{decoded, first_fault, left_padding, left_symbols, left_text, group_bytes}
+use Rattle.data_url.specs.{Base64.{group_number, groups, is_symbol, symbol_value, values, after_groups}, Laws.{GoesOn}}
+use Rattle.data_url.specs.{Laws.{TwoFeeds}, Steps.Groups.{Fills, IsOverGap, is_symbol_or_space}}
+use Rattle.data_url.specs.Steps.Lanes.{DecodesFront}
 use Rattle.data_url.proofs.forgiving_base64.Padding.{after_groups-append, after_groups-map, before-append, before_none}
 use Rattle.data_url.proofs.forgiving_base64.Padding.{any_filter, filter_every, classes, every_list_all, filter_all}
 use Rattle.data_url.proofs.forgiving_base64.Padding.{done_is, every_after, fault-append, fault_byte, fault_invalid}

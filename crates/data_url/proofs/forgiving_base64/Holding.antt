@@ -1,28 +1,25 @@
 -- Feeding while decoded bytes are held. For the functions of `Decoder` that feed.
 use Rattle.std.proofs.Common.{Option, None, Some, is_some, Result, Ok, Err, refl, ap, sym, ◌∙◌, subst, arith}
-use Rattle.std.proofs.Common.{append_assoc, drop-drop, length-append, take-append-drop, append-nil}
-use Rattle.std.proofs.Common.{false, cond, min, ◌&&◌, ◌||◌, List, [], ◌∷◌, ◌++◌, length, map, drop, get_or, take}
-use Rattle.std.proofs.Common.{take-add}
-use Rattle.std.{proofs.Common.{get_or-drop, length-drop, MatchResult}, specs.Option.{option_or}}
-use Rattle.std.proofs.Common.{eqb, eqb-true, inl, inr, slice_index, ◌≡◌, ℕ, ◌+◌, ◌-◌, ◌/◌, ◌<◌, ◌≤◌, length-take-le}
-use Rattle.std.proofs.Common.{Bool, true}
-use Rattle.std.{proofs.lemmas.Bool.{and_parts, cases_Bool, true≢false}, specs.List.{filter, list_all}}
-use Rattle.std.specs.Result.{result_err}
-use Rattle.std.proofs.lemmas.{List.{nil_from_length, take_more, take_rest}, List.Folds.{list_all-append, list_all_more}}
+use Rattle.std.proofs.Common.{append_assoc, drop-drop, length-append, take-append-drop, append-nil, false, cond, min}
+use Rattle.std.proofs.Common.{◌&&◌, ◌||◌, List, [], ◌∷◌, ◌++◌, length, map, drop, get_or, take, take-add, get_or-drop}
+use Rattle.std.proofs.Common.{length-drop, MatchResult, eqb, eqb-true, inl, inr, slice_index, ◌≡◌, ℕ, ◌+◌, ◌-◌, ◌/◌}
+use Rattle.std.{proofs.Common.{◌<◌, ◌≤◌, length-take-le, Bool, true}, proofs.lemmas.Bool.{and_parts, cases_Bool}}
+use Rattle.std.{proofs.lemmas.Bool.{true≢false}, proofs.lemmas.List.{nil_from_length, take_more, take_rest}}
+use Rattle.std.{proofs.lemmas.List.Folds.{list_all-append, list_all_more}, specs.List.{filter, list_all}}
+use Rattle.std.{specs.Option.{option_or}, specs.Result.{result_err}}
 use Rattle.data_url.specs.Base64.{Kind, after_groups, first_fault, groups, is_symbol, left_padding, left_symbols}
-use Rattle.data_url.specs.{Base64.{symbol_value}, Decoder.{Feeds, IsLeft, State, left_over}, Run.{IsRun, joined_pieces}}
-use Rattle.data_url.specs.{Mime.{Every}, declared.forgiving_base64.held.HeldGroups.{HeldGroups}}
-use Rattle.data_url.specs.Steps.{Groups.{Fills, IsWhole, held_bytes, is_symbol_or_space}, Window.{is_plain}}
+use Rattle.data_url.specs.{Base64.{symbol_value}, Decoder.{Feeds, IsLeft, State, left_over}, Mime.{Every}, Run.{IsRun}}
+use Rattle.data_url.specs.{Run.{joined_pieces}, Steps.Groups.{Fills, IsWhole, held_bytes, is_symbol_or_space}}
 use Rattle.data_url.specs.Steps.Holding.{Adds, CallsOnce, EndsWithin, FeedsFront, Gains, IsBetweenGroups, Reads}
-use Rattle.data_url.specs.Steps.Holding.{ReadsTo, Refuses}
+use Rattle.data_url.specs.{Steps.Holding.{ReadsTo, Refuses}, Steps.Window.{is_plain}}
 use Rattle.data_url.specs.declared.forgiving_base64.DecodeError.{DecodeError}
 use Rattle.data_url.specs.declared.forgiving_base64.DecodeError.TheVariants.{InvalidBase64, WriteError}
-use Rattle.data_url.proofs.forgiving_base64.Groups.{symbols_alone}
-use Rattle.data_url.proofs.forgiving_base64.Padding.{every_list_all, fault-append, fault_byte, fault_none, filter_all}
-use Rattle.data_url.proofs.forgiving_base64.Padding.{is_pad}
-use Rattle.data_url.proofs.forgiving_base64.Padding.{is_bad, length-after_groups, passed}
-use Rattle.data_url.proofs.forgiving_base64.Steps.{IsSound, adds_none, adds_text, fault_space, fault_symbol}
-use Rattle.data_url.proofs.forgiving_base64.Steps.{feeds_then, has_pad, left_goes_on, one_call, told_call}
+use Rattle.data_url.specs.declared.forgiving_base64.held.HeldGroups.{HeldGroups}
+use Rattle.data_url.proofs.{forgiving_base64.Groups.{symbols_alone}, forgiving_base64.Padding.{every_list_all}}
+use Rattle.data_url.proofs.forgiving_base64.Padding.{fault-append, fault_byte, fault_none, filter_all, is_pad, is_bad}
+use Rattle.data_url.proofs.{forgiving_base64.Padding.{length-after_groups, passed}, forgiving_base64.Steps.{IsSound}}
+use Rattle.data_url.proofs.forgiving_base64.Steps.{adds_none, adds_text, fault_space, fault_symbol, feeds_then, has_pad}
+use Rattle.data_url.proofs.forgiving_base64.Steps.{left_goes_on, one_call, told_call}
 use Rattle.data_url.proofs.runs.Runs.{joined_pieces-append, match_at, match_none, refusal-append, run-append}
 
 -- A text of symbols and white space has no fault and no padding
@@ -333,7 +330,7 @@ module _ {F E : Type 0} (step : F → List ℕ → Result (Unit {0}) E → F →
 
   -- the front of a tail was read
   pub reads_front : {d d' : State F} {tail : List ℕ} {place : ℕ} → place ≤ length tail
-      → Reads step d (take place tail) [] d' → FeedsFront step d tail place d'
+      → Reads step d (take place tail) [] d' → FeedsFront step d tail place (Ok tt) d'
   reads_front l r = record { within = l; plain = reads_plain r; feeds = reads_feeds r }
 
   -- an error of the closure ends the feeding of a text that has no fault up to an index

@@ -1,19 +1,15 @@
 -- Symbols of base64 in 16 lanes and in 64. For `alphabet.rt` and `classes/lanes.rt`.
 use Rattle.std.proofs.Common.{List, [], ◌∷◌, ◌++◌, map, ◌≡◌, ℕ, ◌<◌, ◌≤◌, true, eqb, get_or, Fits, w8, w32, ap, length}
-use Rattle.std.proofs.Common.{◌+◌, ◌*◌, ◌/◌, ◌%◌, ◌^◌, refl, sym, ◌∙◌, ap₂, arith, suc, zero, take, drop}
-use Rattle.std.proofs.Common.{take-add, replicate}
+use Rattle.std.proofs.Common.{◌+◌, ◌*◌, ◌/◌, ◌%◌, ◌^◌, refl, sym, ◌∙◌, ap₂, arith, suc, zero, take, drop, replicate}
+use Rattle.std.{proofs.Common.{cond}, proofs.Math.Dec.{ltb}, proofs.lemmas.Bool.{agree_below_at, ltb-true}}
+use Rattle.std.{proofs.lemmas.List.{drop_all, drop_more, take-map, take-take}, proofs.lemmas.Simd.{get_or_narrower}}
+use Rattle.std.proofs.lemmas.Simd.{below_from_Fits, pick_l_left, pick_l_whole, splat_is_map, tops_compared, zip2_splat}
 use Rattle.std.specs.List.{list_all}
-use Rattle.std.proofs.lemmas.List.{drop_all, drop_more, take-map, take-take}
+use Rattle.data_url.specs.{Base64.{group_number, groups, is_symbol, symbol_value}, Steps.Lanes.{DecodesFront}}
+use Rattle.data_url.specs.Steps.Lanes.{offset_row, number_bytes, numbers, twelves, value_of}
+use Rattle.data_url.specs.declared.forgiving_base64.alphabet.TheConstants.{TWELVES}
 use Rattle.data_url.proofs.classes.Lookups.{extracted, extracted_is, first_row, four_rows}
-use Rattle.std.proofs.lemmas.Simd.{get_or_narrower, below_from_Fits, pick_l_left, pick_l_whole}
-use Rattle.data_url.specs.{Base64.{group_number, groups, is_symbol, symbol_value}}
-use Rattle.data_url.specs.Steps.Lanes.{DecodesFront, offset_row, number_bytes, numbers, twelves, value_of}
-use Rattle.data_url.proofs.forgiving_base64.Vectors.{chosen, joined, each_take, front_values, put_three}
-use Rattle.data_url.specs.declared.{forgiving_base64.alphabet.TheConstants.{TWELVES}}
-use Rattle.std.proofs.Common.{cond}
-use Rattle.std.proofs.lemmas.Bool.{agree_below_at, ltb-true}
-use Rattle.std.proofs.Math.Dec.{ltb}
-use Rattle.std.proofs.lemmas.Simd.{splat_is_map, tops_compared, zip2_splat}
+use Rattle.data_url.proofs.forgiving_base64.Vectors.{chosen, joined, each_take, front_values}
 use lib.Lanes.{sel_l, top, Each1, digits_l, number_l, pair_sums, pick_l, products, zip2}
 
 -- Values
@@ -172,18 +168,6 @@ row_is s w vs ns r long fits f p q size o m few all =
 -- what a swizzle by the places of the first twelve bytes of each row begins with
 pub picked_twelves : (r : List ℕ) → length r ≡ 64 → take 48 (pick_l 0 (r ++ r) TWELVES) ≡ twelves r
 picked_twelves r long = ap (take 48) (pick_l_left 0 r r 64 TWELVES long tt) ∙ ap twelves (pick_l_whole 0 r 64 long)
-
--- the first three parts of a block, put one after another, are its first 48 bytes
-pub parts_are : (r b1 b2 b3 : List ℕ) → length r ≡ 64 → take 16 b1 ≡ extracted 0 r
-    → take (16 + 16) b2 ≡ take 16 b1 ++ extracted 16 r → take (32 + 16) b3 ≡ take 32 b2 ++ extracted 32 r → length b3
-    ≡ 48
-    → b3 ≡ take 48 r
-parts_are r b1 b2 b3 long p q s size =
-    put_three b1 b2 b3 _ _ _ p q s size
-    ∙ ap₂ (λ (x z : List ℕ). x ++ z)
-    (ap₂ (λ (x y : List ℕ). x ++ y) (extracted_is r 0 long (omega arith) tt) (extracted_is r 16 long (omega arith) tt))
-    (extracted_is r 32 long (omega arith) tt)
-    ∙ ap (λ x. x ++ take 16 (drop 32 r)) (sym (take-add 16 16 r)) ∙ sym (take-add 32 16 r)
 
 -- the bytes of the numbers of the values of symbols are those of their groups
 pub block_is : (s vs ns r : List ℕ) → list_all is_symbol s ≡ true → Each1 (Fits w8) s → vs ≡ map value_of s → ns ≡

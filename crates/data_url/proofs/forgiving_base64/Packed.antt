@@ -1,22 +1,15 @@
 -- Rows with gaps, and units of symbols with white space between them. For `gaps.rt`.
 use Rattle.std.proofs.Common.{List, ◌++◌, map, ◌≡◌, ℕ, ◌<◌, ◌≤◌, ◌+◌, ◌*◌, ◌-◌, ◌/◌, ◌%◌, ◌^◌, true, false, cond}
-use Rattle.std.proofs.Common.{get_or, ⊎_elim}
-use Rattle.std.proofs.Common.{length-take-le, length, take, drop, ap, sym, ◌∙◌, arith, take-take, take-append-drop}
-use Rattle.std.proofs.Common.{append_assoc, append-nil, take-add, take_at, suc, zero, refl, [], ◌∷◌}
-use Rattle.std.proofs.Math.Seq.{take-append-add}
-use Rattle.std.proofs.lemmas.Bool.{and_parts, cases_lt}
-use Rattle.std.proofs.lemmas.List.{length-map, map-append}
-use Rattle.std.proofs.lemmas.List.Elements.{filter-append}
-use Rattle.std.proofs.lemmas.List.Filters.{length-filter_more}
-use Rattle.std.proofs.lemmas.List.Folds.{list_all-append}
-use Rattle.std.proofs.lemmas.Simd.{mask_l-lt}
-use Rattle.std.specs.Simd.Lanes.{mask_l}
-use Rattle.std.specs.{Int.Count.{count_trailing_zeros}, List.{filter, list_all, prefix_len}}
-use Rattle.data_url.specs.Base64.{groups, is_symbol, symbol_value}
-use Rattle.data_url.specs.Steps.Groups.{Fills, clear, is_symbol_or_space}
+use Rattle.std.proofs.Common.{get_or, ⊎_elim, length-take-le, length, take, drop, ap, sym, ◌∙◌, arith, take-take}
+use Rattle.std.proofs.Common.{take-append-drop, append_assoc, append-nil, take-add, take_at, suc, zero, refl, [], ◌∷◌}
+use Rattle.std.{proofs.Math.Seq.{take-append-add}, proofs.lemmas.Bool.{and_parts, cases_lt}}
+use Rattle.std.{proofs.lemmas.List.{length-map, map-append}, proofs.lemmas.List.Elements.{filter-append}}
+use Rattle.std.{proofs.lemmas.List.Filters.{length-filter_more}, proofs.lemmas.List.Folds.{list_all-append}}
+use Rattle.std.{proofs.lemmas.Simd.{mask_l-lt}, specs.Int.Count.{count_trailing_zeros}, specs.List.{filter, list_all}}
+use Rattle.std.{specs.List.{prefix_len}, specs.Simd.Lanes.{mask_l}}
+use Rattle.data_url.specs.{Base64.{groups, is_symbol, symbol_value}, Steps.Groups.{Fills, clear, is_symbol_or_space}}
 use Rattle.data_url.specs.Steps.Lanes.{DecodesFront}
-use Rattle.data_url.proofs.forgiving_base64.Groups.{put_keeps, symbols_kept}
-use Rattle.data_url.proofs.forgiving_base64.Spaces.{clear_mask}
+use Rattle.data_url.proofs.{forgiving_base64.Groups.{put_keeps, symbols_kept}, forgiving_base64.Spaces.{clear_mask}}
 use Rattle.data_url.proofs.forgiving_base64.Vectors.{groups_whole, is_other, others_mask}
 
 -- Rows that are packed

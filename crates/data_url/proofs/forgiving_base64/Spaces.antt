@@ -1,12 +1,8 @@
 -- Rows of symbols with white space between them: the bits of the others, and what is left without them. For `gaps.rt`.
-use Rattle.std.proofs.Common.{List, [], ◌∷◌, ◌++◌, map, ◌≡◌, ℕ, true, false, cond, eqb}
-use Rattle.std.proofs.Common.{length, ap, ◌+◌, ◌*◌}
-use Rattle.std.proofs.Common.{◌/◌, ◌^◌, Bool, refl, sym, ◌∙◌, arith, ◌&&◌}
-use Rattle.std.{proofs.Math.Nat.{div-div-eq-div-mul, pow-succ'}}
-use Rattle.std.proofs.lemmas.Bool.{eqb-true, true≢false}
-use Rattle.std.specs.List.{filter}
-use Rattle.data_url.specs.Base64.{is_symbol}
-use Rattle.data_url.specs.Steps.Groups.{clear}
+use Rattle.std.proofs.Common.{List, [], ◌∷◌, ◌++◌, map, ◌≡◌, ℕ, true, false, cond, eqb, length, ap, ◌+◌, ◌*◌, ◌/◌, ◌^◌}
+use Rattle.std.{proofs.Common.{Bool, refl, sym, ◌∙◌, arith, ◌&&◌}, proofs.Math.Nat.{div-div-eq-div-mul, pow-succ'}}
+use Rattle.std.{proofs.lemmas.Bool.{eqb-true, true≢false}, specs.List.{filter}}
+use Rattle.data_url.specs.{Base64.{is_symbol}, Steps.Groups.{clear}}
 use Rattle.data_url.proofs.forgiving_base64.Vectors.{is_other, others_mask}
 
 -- Bits that are 0

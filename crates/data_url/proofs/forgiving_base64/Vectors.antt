@@ -1,16 +1,11 @@
 -- Blocks of 64 symbols in vectors. For `alphabet.rt`.
-use Rattle.std.proofs.Common.{List, [], ◌∷◌, ◌++◌, map, ◌≡◌, ℕ, ◌<◌, ltb, true, cond, eqb, get_or}
-use Rattle.std.proofs.Common.{length, take, Fits, w8, ap, ◌+◌}
-use Rattle.std.proofs.Common.{◌%◌, Bool, not, refl, sym, ◌∙◌, ap₂, arith, suc, zero, take_all}
-use Rattle.std.{proofs.Common.{◌&&◌, bit_or}}
-use Rattle.std.{specs.List.{list_all}}
+use Rattle.std.proofs.Common.{List, [], ◌∷◌, ◌++◌, map, ◌≡◌, ℕ, ◌<◌, ltb, true, cond, eqb, get_or, length, take, Fits}
+use Rattle.std.proofs.Common.{w8, ap, ◌%◌, Bool, not, refl, ◌∙◌, ap₂, arith, suc, zero, ◌&&◌, bit_or}
 use Rattle.std.proofs.lemmas.Bool.{agree_below_at, and_parts, eqb-true, ltb-true, cases_eq, ne_eqb}
-use Rattle.std.proofs.lemmas.List.{nil_from_length}
-use Rattle.std.proofs.lemmas.Nat.{and_le_r, and_le_l}
-use Rattle.std.proofs.lemmas.Simd.{zip2_of_maps}
-use Rattle.std.specs.Char.{is_ascii_whitespace as std_whitespace, is_ascii_whitespace}
-use Rattle.data_url.specs.Base64.{is_symbol, symbol_value, groups, after_groups}
-use Rattle.data_url.specs.Steps.Lanes.{value_of}
+use Rattle.std.{proofs.lemmas.List.{nil_from_length}, proofs.lemmas.Nat.{and_le_r, and_le_l}}
+use Rattle.std.{proofs.lemmas.Simd.{zip2_of_maps}, specs.Char.{is_ascii_whitespace as std_whitespace}}
+use Rattle.std.{specs.Char.{is_ascii_whitespace}, specs.List.{list_all}}
+use Rattle.data_url.specs.{Base64.{is_symbol, symbol_value, groups, after_groups}, Steps.Lanes.{value_of}}
 use Rattle.data_url.specs.declared.forgiving_base64.alphabet.TheConstants.{VALUES}
 use Rattle.data_url.proofs.forgiving_base64.Padding.{groups-append, length-after_groups}
 use lib.Bits.{or_add_and}
@@ -129,8 +124,3 @@ or_zero x y = grind (arith, cases_eq, ne_eqb, or_add_and, and_le_l, and_le_r)
 pub groups_whole : (x y : List ℕ) → length x % 4 ≡ 0 → groups (x ++ y) ≡ groups x ++ groups y
 groups_whole x y h = groups-append x y
     ∙ ap (λ z. groups x ++ groups (z ++ y)) (nil_from_length (after_groups x) (length-after_groups x ∙ h))
-
--- rows that were put one after another
-pub put_three : (b1 b2 b3 x y z : List ℕ) → take 16 b1 ≡ x → take (16 + 16) b2 ≡ take 16 b1 ++ y
-    → take (32 + 16) b3 ≡ take 32 b2 ++ z → length b3 ≡ 48 → b3 ≡ (x ++ y) ++ z
-put_three b1 b2 b3 x y z p q r long = sym (take_all 48 b3 (omega arith)) ∙ r ∙ ap (λ l. l ++ z) (q ∙ ap (λ l. l ++ y) p)

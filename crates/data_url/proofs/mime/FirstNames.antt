@@ -1,35 +1,34 @@
 -- Which parameters are kept: the first of each name, found by fingerprints. For `kept.rt` and well-formed records.
-use Rattle.std.proofs.{lemmas.Grind.{common_steps}, Common.{◌+◌, append_assoc, append-nil, arith, ◌≤◌, not}}
-use Rattle.std.proofs.Common.{string_bytes, ◌⊎◌, false, cond, [], ◌∷◌, ◌++◌, get_or, drop, Option, None, Some, refl}
-use Rattle.std.proofs.Common.{ap₂, Global, slice_index, suc, ◌-◌, ⊎_elim, get_or-take, set, length-take, length-append}
-use Rattle.std.proofs.Common.{take-append-drop, ◌≡◌, ℕ, List, String, ap, length, map, min, sym, take, ◌∙◌, ◌<◌, ◌||◌}
-use Rattle.std.proofs.Common.{◌&&◌, Bool, true, ◌≢◌, ◌==◌, ◌^◌, bit_and, zero, ◌*◌, ◌%◌, bit_or, length-drop}
-use Rattle.std.proofs.{Common.{length-take-le, take_all, w64, ◌/◌}, lemmas.Nat.Bits.{bit_at-lt, bit_at-suc}}
-use Rattle.std.proofs.lemmas.Nat.Bits.{bit_at-trailing_zeros, bit_at_and, bit_at_lowest}
-use Rattle.std.proofs.{Math.ListN.{drop_of_length-le}, lemmas.{Map.Text.{btree_set_updates_text}, Bool.{cond-true}}}
-use Rattle.std.proofs.lemmas.Bool.{not-false, not-true, and_from, and_parts, cases_lt, cond_both, false_from_ne_true}
-use Rattle.std.proofs.lemmas.{Bool.{agree_below_at, eqb-true}, List.Folds.{list_all-append, list_all-map, list_all_at}}
-use Rattle.std.proofs.lemmas.List.{get_or-map, length-map, length-set, map-append, Folds.{list_any-append, list_any_at}}
+use Rattle.std.proofs.Common.{◌+◌, append_assoc, append-nil, arith, ◌≤◌, not, string_bytes, ◌⊎◌, false, cond, [], ◌∷◌}
+use Rattle.std.proofs.Common.{◌++◌, get_or, drop, Option, None, Some, refl, ap₂, Global, slice_index, suc, ◌-◌, ⊎_elim}
+use Rattle.std.proofs.Common.{get_or-take, set, length-take, length-append, take-append-drop, ◌≡◌, ℕ, List, String, ap}
+use Rattle.std.proofs.Common.{length, map, min, sym, take, ◌∙◌, ◌<◌, ◌||◌, ◌&&◌, Bool, true, ◌≢◌, ◌==◌, ◌^◌, bit_and}
+use Rattle.std.proofs.Common.{zero, ◌*◌, ◌%◌, bit_or, length-drop, length-take-le, take_all, w64, ◌/◌}
+use Rattle.std.{proofs.Math.ListN.{drop_of_length-le}, proofs.lemmas.Bool.{cond-true, not-false, not-true, and_from}}
+use Rattle.std.proofs.lemmas.Bool.{and_parts, cases_lt, cond_both, false_from_ne_true, agree_below_at, eqb-true}
+use Rattle.std.{proofs.lemmas.Grind.{common_steps}, proofs.lemmas.List.{get_or-map, length-map, length-set, map-append}}
 use Rattle.std.proofs.lemmas.List.{drop-append-le, take-append-le, take_more_set, get_or-drop, get_or-take}
-use Rattle.std.proofs.lemmas.{Slice.Eq.{bytes_eq-Decides}, Str.Ascii.{IsAscii-map, lowercase-lowercase}}
-use Rattle.std.proofs.lemmas.Str.{chars-IsAscii, chars-nil, IsUtf8-string_bytes, Ascii.{lowercase_ascii}}
-use Rattle.std.proofs.lemmas.Simd.{bit_mask_l}
-use Rattle.std.specs.{Int.{bit_at, Count.{count_trailing_zeros}}, Simd.Lanes.{mask_l}, List.{list_all}}
-use Rattle.std.specs.{Ordering.{nat_cmp}, Char.{to_ascii_lowercase}, BTreeSet.{BTreeSet, UpdatesBy, contains}}
-use Rattle.std.specs.{BTreeSet.{contains_text}, Cmp.Lexicographic.{slice_cmp}, Str.{IsUtf8, bytes_eq, chars}}
-use Rattle.std.specs.String.{string_cmp}
-use Rattle.data_url.specs.{CodePoints.{is_quotable, is_token}, declared.mime.kept.TheConstants.{LOOKED_THROUGH}}
-use Rattle.data_url.specs.{declared.mime.kept.TheConstants.{FINGERPRINTS_LEN, CASE}, Mime.{Parses, Record}}
-use Rattle.data_url.specs.Mime.{has_distinct_names, IsRecordOfParts, has_name, BeginsParameters, Item, Items, Pair}
-use Rattle.data_url.specs.Mime.{first_of_each_name, is_lowercase_name, is_token_text, kept_pairs, valid_of, valid_pairs}
-use Rattle.data_url.specs.{Mime.{HasNoRecord, IsHead, IsWellformed}, MimeType.{pair_of, code_points}}
-use Rattle.data_url.specs.Steps.Kept.{first_of, fingerprint_of, pairs_of, AreFingerprints, HasLaterNames, IsIndexed}
-use Rattle.data_url.specs.Steps.{Kept.{letter_at}, Parsing.{HasLowercaseNames, added_pairs, after_char, item_in}}
-use Rattle.data_url.specs.Steps.Parsing.{pair_if, reading_in, unless_named, HasNoHead}
-use Rattle.data_url.specs.declared.mime.kept.KeptParameters.{KeptParameters}
-use Rattle.data_url.proofs.mime.{Items.{has_items, has_parameter, items_are, items_in, rest_shorter}, Parsing.{mark_is}}
-use Rattle.data_url.proofs.{texts.CodePoints.{no_chars}, mime.TokenTexts.{bytes_of_ascii, token_text_ascii}}
-use Rattle.data_url.proofs.mime.TokenTexts.{token_text_chars}
+use Rattle.std.proofs.lemmas.List.Folds.{list_all-append, list_all-map, list_all_at, list_any-append, list_any_at}
+use Rattle.std.{proofs.lemmas.Map.Text.{btree_set_updates_text}, proofs.lemmas.Nat.Bits.{bit_at-lt, bit_at-suc}}
+use Rattle.std.proofs.lemmas.Nat.Bits.{bit_at-trailing_zeros, bit_at_and, bit_at_lowest}
+use Rattle.std.{proofs.lemmas.Simd.{bit_mask_l}, proofs.lemmas.Slice.Eq.{bytes_eq-Decides}}
+use Rattle.std.proofs.lemmas.Str.{chars-IsAscii, chars-nil, IsUtf8-string_bytes}
+use Rattle.std.{proofs.lemmas.Str.Ascii.{IsAscii-map, lowercase-lowercase, lowercase_ascii}, specs.BTreeSet.{BTreeSet}}
+use Rattle.std.{specs.BTreeSet.{UpdatesBy, contains, contains_text}, specs.Char.{to_ascii_lowercase}}
+use Rattle.std.{specs.Cmp.Lexicographic.{slice_cmp}, specs.Int.{bit_at}, specs.Int.Count.{count_trailing_zeros}}
+use Rattle.std.{specs.List.{list_all}, specs.Ordering.{nat_cmp}, specs.Simd.Lanes.{mask_l}, specs.Str.{IsUtf8}}
+use Rattle.std.{specs.Str.{bytes_eq, chars}, specs.String.{string_cmp}}
+use Rattle.data_url.specs.{CodePoints.{is_quotable, is_token}, Mime.{Parses, Record, has_distinct_names}}
+use Rattle.data_url.specs.Mime.{IsRecordOfParts, has_name, BeginsParameters, Item, Items, Pair, first_of_each_name}
+use Rattle.data_url.specs.Mime.{is_lowercase_name, is_token_text, kept_pairs, valid_of, valid_pairs, HasNoRecord}
+use Rattle.data_url.specs.{Mime.{IsHead, IsWellformed}, MimeType.{pair_of, code_points}, Steps.Kept.{first_of}}
+use Rattle.data_url.specs.Steps.Kept.{fingerprint_of, pairs_of, AreFingerprints, HasLaterNames, IsIndexed, letter_at}
+use Rattle.data_url.specs.Steps.Parsing.{HasLowercaseNames, added_pairs, after_char, item_in, pair_if, reading_in}
+use Rattle.data_url.specs.{Steps.Parsing.{unless_named, HasNoHead}, declared.mime.kept.KeptParameters.{KeptParameters}}
+use Rattle.data_url.specs.declared.mime.kept.TheConstants.{LOOKED_THROUGH, FINGERPRINTS_LEN, CASE}
+use Rattle.data_url.proofs.mime.Items.{has_items, has_parameter, items_are, items_in, rest_shorter}
+use Rattle.data_url.proofs.{mime.Parsing.{mark_is}, mime.TokenTexts.{bytes_of_ascii, token_text_ascii}}
+use Rattle.data_url.proofs.{mime.TokenTexts.{token_text_chars}, texts.CodePoints.{no_chars}}
 
 -- for texts that are not equal, the test of equality is false
 pub test_from_different : (a c : List ℕ) → (a ≡ c → ⊥) → bytes_eq a c ≡ false

@@ -1,9 +1,8 @@
 -- A text has one list of items, and at most one record.
-use Rattle.std.proofs.{lemmas.Bool.{cases_Bool, not-false}, Common.{inl, inr, Some, length, refl, sym, ap, ◌∙◌}}
-use Rattle.std.proofs.Common.{append_assoc, append-nil, arith, drop, take, one-add, ◌+◌, length-append, eqb-true}
-use Rattle.std.proofs.Common.{take-append-drop, ◌≡◌, ℕ, zero, suc, ◌≤◌, ◌==◌, Bool, false, cond, List, [], ◌∷◌, ◌++◌}
-use Rattle.std.proofs.Common.{Option, true, None}
-use Rattle.std.specs.List.{prefix_len}
+use Rattle.std.proofs.Common.{inl, inr, Some, length, refl, sym, ap, ◌∙◌, append_assoc, append-nil, arith, drop, take}
+use Rattle.std.proofs.Common.{one-add, ◌+◌, length-append, eqb-true, take-append-drop, ◌≡◌, ℕ, zero, suc, ◌≤◌, ◌==◌}
+use Rattle.std.proofs.Common.{Bool, false, cond, List, [], ◌∷◌, ◌++◌, Option, true, None}
+use Rattle.std.{proofs.lemmas.Bool.{cases_Bool, not-false}, specs.List.{prefix_len}}
 use Rattle.data_url.specs.{CodePoints.{is_http_whitespace, is_token}, Mime.{BeginsParameters, DoesNotBegin, Every}}
 use Rattle.data_url.specs.Mime.{GivesValue, IsParameter, Item, Items, is_quote, lone_equals, nothing, plain, quoted}
 use Rattle.data_url.specs.{Mime.{unclosed, unless_empty, IsHead}, Steps.Parsing.{Reading, after_char, front_of}}

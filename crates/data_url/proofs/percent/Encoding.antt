@@ -1,21 +1,20 @@
 -- Percent-encoding with the entries of a table, and decoding of encoded texts. For `push_encoded`.
-use Rattle.std.proofs.{lemmas.Grind.{common_steps, flat_map-append}, Common.{append_assoc, ◌≡◌, ℕ, ◌*◌, ◌+◌, ◌-◌, ◌<◌}}
-use Rattle.std.proofs.Common.{◌&&◌, ◌||◌, Bool, false, true, List, [], ◌∷◌, length, take, drop, refl, ◌/◌, ◌%◌, ◌++◌}
-use Rattle.std.proofs.Common.{Option, None, Some, sym, ap, ◌∙◌, inl, inr, length-take-le, take-take, subst, append-nil}
-use Rattle.std.proofs.Common.{arith, suc, ◌≤◌, get_or, ◌==◌, slice_index, nat_lt, take_all}
-use Rattle.std.proofs.{lemmas.{Slice.Eq.{bytes_eq-Decides}, Bool.{agree_below}}, Math.Seq.{take-append-add}}
+use Rattle.std.proofs.Common.{append_assoc, ◌≡◌, ℕ, ◌*◌, ◌+◌, ◌-◌, ◌<◌, ◌&&◌, ◌||◌, Bool, false, true, List, [], ◌∷◌}
+use Rattle.std.proofs.Common.{length, take, drop, refl, ◌/◌, ◌%◌, ◌++◌, Option, None, Some, sym, ap, ◌∙◌, inl, inr}
+use Rattle.std.proofs.Common.{length-take-le, take-take, subst, append-nil, arith, suc, ◌≤◌, get_or, ◌==◌, slice_index}
+use Rattle.std.{proofs.Common.{nat_lt, take_all}, proofs.Math.Seq.{take-append-add}, proofs.lemmas.Bool.{agree_below}}
 use Rattle.std.proofs.lemmas.Bool.{agree_below_at, and_parts, eqb-true, and_left, cases_Bool, cond_both, both_ways}
-use Rattle.std.proofs.lemmas.Bool.{cases_lt}
-use Rattle.std.proofs.lemmas.{Bool.{ne_eqb, ltb-true}, Str.Ascii.{IsAscii-nil}, List.{nil_from_length, take_more}}
-use Rattle.std.proofs.lemmas.List.{get_or-take, get_or_past, length-take}
-use Rattle.std.proofs.lemmas.{Str.{IsAscii-append, IsUtf8-from_ascii}, Slice.{take-put_mid}}
-use Rattle.std.specs.{Char.{digit_value, is_ascii_hexdigit}, List.{AllByRecursion, list_all}, Str.{bytes_eq, IsAscii}}
-use Rattle.std.specs.Str.{IsUtf8}
-use Rattle.data_url.specs.Steps.Classes.{AreOf, is_marked}
-use Rattle.data_url.specs.{Percent.{percent_decoding}, Steps.{Header.{header_parts, header_text}, Sets.{IsEntry}}}
-use Rattle.data_url.specs.{Steps.Sets.{byte_encoding, in_set}, Url.{in_path_end_set, percent_encoding, serialised}}
-use Rattle.data_url.specs.Url.{with_query, without_tabs_and_newlines, in_path_set, in_query_set, before, after}
-use Rattle.data_url.specs.{Url.{encoded_byte, encoded_path, hex_digit}, declared.percent.EncodeSet.{EncodeSet}}
+use Rattle.std.{proofs.lemmas.Bool.{cases_lt, ne_eqb, ltb-true}, proofs.lemmas.Grind.{common_steps, flat_map-append}}
+use Rattle.std.proofs.lemmas.List.{nil_from_length, take_more, get_or-take, get_or_past, length-take}
+use Rattle.std.{proofs.lemmas.Slice.{take-put_mid}, proofs.lemmas.Slice.Eq.{bytes_eq-Decides}}
+use Rattle.std.{proofs.lemmas.Str.{IsAscii-append, IsUtf8-from_ascii}, proofs.lemmas.Str.Ascii.{IsAscii-nil}}
+use Rattle.std.{specs.Char.{digit_value, is_ascii_hexdigit}, specs.List.{AllByRecursion, list_all}}
+use Rattle.std.specs.Str.{bytes_eq, IsAscii, IsUtf8}
+use Rattle.data_url.specs.{Percent.{percent_decoding}, Steps.Classes.{AreOf, is_marked}, Steps.Header.{header_parts}}
+use Rattle.data_url.specs.{Steps.Header.{header_text}, Steps.Sets.{IsEntry, byte_encoding, in_set}}
+use Rattle.data_url.specs.Url.{in_path_end_set, percent_encoding, serialised, with_query, without_tabs_and_newlines}
+use Rattle.data_url.specs.Url.{in_path_set, in_query_set, before, after, encoded_byte, encoded_path, hex_digit}
+use Rattle.data_url.specs.declared.percent.EncodeSet.{EncodeSet}
 use Rattle.data_url.proofs.{classes.Rows.{unmarked_passes}, texts.Bytes.{after_nil, after_other, after_same, lacks}}
 use Rattle.data_url.proofs.texts.Bytes.{dropped_keeps, dropped_nil, dropped_passes, without_tabs_and_newlines-append}
 use Rattle.data_url.proofs.texts.Bytes.{first_byte, before-append, before_at, before_nil, before_other, before_same}

@@ -1,8 +1,7 @@
 -- Texts of bytes: cut at a byte, and without tabs and newlines.
 use Rattle.std.proofs.Common.{Some, refl, ap, ◌∙◌, arith, eqb-true, eq-eqb, ◌==◌, ◌≡◌, ℕ, suc, ◌<◌, true, false, List}
-use Rattle.std.proofs.{Common.{[], ◌∷◌, ◌++◌, length, get_or, append-nil, None}, lemmas.Bool.{cases_Bool, cond-true}}
-use Rattle.std.proofs.lemmas.Bool.{cond-false}
-use Rattle.std.specs.Option.{option_map}
+use Rattle.std.{proofs.Common.{[], ◌∷◌, ◌++◌, length, get_or, append-nil, None}, proofs.lemmas.Bool.{cases_Bool}}
+use Rattle.std.{proofs.lemmas.Bool.{cond-true, cond-false}, specs.Option.{option_map}}
 use Rattle.data_url.specs.Url.{before, after, without_tabs_and_newlines, fragment, is_tab_or_newline}
 use Rattle.data_url.proofs.runs.Runs.{none_or_some}
 

@@ -90,27 +90,20 @@ abbrev pub ReadsText : {F E : Type 0} → (F → List ℕ → Result (Unit {0}) 
 ReadsText step d text r d' =
     MatchResult r (λ read. ReadsTo step d text read.0 read.1 d') (λ x. EndsWithin step d text x d')
 
--- feeding d the first bytes of a tail, none of which is '#' or '%', returns no error
+-- feeding d the bytes of a tail before a place, none of which is '#' or '%', returns r
 pub record FeedsFront {F E : Type 0} (step : F → List ℕ → Result (Unit {0}) E → F → Type 0) (d : State F)
-    (tail : List ℕ) (place : ℕ) (d' : State F) : Type 0 where
+    (tail : List ℕ) (place : ℕ) (r : Result (Unit {0}) (DecodeError E)) (d' : State F) : Type 0 where
   pub within : place ≤ length tail
   pub plain : list_all is_plain (take place tail) ≡ true
-  pub feeds : Feeds step d (take place tail) (Ok tt) d'
-
--- feeding d a tail up to an index before which there is no '#' and no '%' ends with an error
-pub record RefusesUnescaped {F E : Type 0} (step : F → List ℕ → Result (Unit {0}) E → F → Type 0) (d : State F)
-    (tail : List ℕ) (x : DecodeError E) (d' : State F) : Type 0 where
-  pub at : ℕ
-  pub within : at ≤ length tail
-  pub plain : list_all is_plain (take at tail) ≡ true
-  pub feeds : Feeds step d (take at tail) (Err x) d'
+  pub feeds : Feeds step d (take place tail) r d'
 
 -- feeding d a tail up to its first '#' or '%' returns the place of that byte, or the length of the tail, or an error
 abbrev pub FeedsUnescaped : {F E : Type 0} → (F → List ℕ → Result (Unit {0}) E → F → Type 0) → State F → List ℕ
     → Result ℕ (DecodeError E) → State F → Type 0
 FeedsUnescaped step d tail r d' = MatchResult r
-    (λ place. FeedsFront step d tail place d' × (place < length tail → is_plain (slice_index tail place) ≡ false))
-    (λ x. RefusesUnescaped step d tail x d')
+    (λ place. FeedsFront step d tail place (Ok tt) d'
+    × (place < length tail → is_plain (slice_index tail place) ≡ false))
+    (λ x. (place : ℕ) × FeedsFront step d tail place (Err x) d')
 
 -- d passes these bytes, which are held, to its closure, whatever text was read before. After `Ok` the
 -- bytes that are held after them, b, are still held; an error ends the feeding.

@@ -7,7 +7,7 @@ ghost use Rattle.std.specs.Simd.Lanes.{mask_l};
 ghost use Rattle.data_url.specs.Base64.{group_bytes, group_number, groups, is_symbol, symbol_value};
 ghost use Rattle.data_url.specs.Steps.{Groups.{is_symbol_or_space}, Lanes.{DecodesFront, number_bytes, numbers, twelves, value_of}};
 
-use crate::classes::lanes::{is_block_unmarked, is_unmarked, marks, put, repeated, row};
+use crate::classes::lanes::{is_block_unmarked, is_unmarked, marks, repeated, row};
 use std::simd::prelude::*;
 
 /// The value of each symbol, by its byte, and 64 for other bytes.
@@ -162,16 +162,12 @@ const TWELVES: [usize; 64] = [
     63, 63, 63, 63, 63, 63, 63, 63, 63, 63, 63, 63, 63, 63,
 ];
 
-/// The bytes of the sixteen groups of a block of symbols.
+/// The bytes of the sixteen groups of a block of symbols, and then bytes without meaning.
 #[inline(always)]
-pub(crate) fn decode_block(bytes: u8x64) -> [u8; 48]
+pub(crate) fn decode_block(bytes: u8x64) -> u8x64
     requires { IsTrue (list_all is_symbol bytes) }
-    ensures { result ≡ groups (map symbol_value bytes) }
+    ensures len { length result ≡ 64 }
+    ensures bytes { take 48 result ≡ groups (map symbol_value bytes) }
 {
-    let decoded = bytes_of(numbers_of(values_of(bytes))).swizzle(TWELVES);
-    let mut joined = [0; 48];
-    put(&mut joined, 0, decoded.extract::<0, 16>());
-    put(&mut joined, 16, decoded.extract::<16, 16>());
-    put(&mut joined, 32, decoded.extract::<32, 16>());
-    joined
+    bytes_of(numbers_of(values_of(bytes))).swizzle(TWELVES)
 }

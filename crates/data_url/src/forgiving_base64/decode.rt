@@ -131,7 +131,7 @@ where
             if !is_block_of_symbols(block) {
                 return Ok(at);
             }
-            self.write(&decode_block(block))?;
+            self.write(&decode_block(block).to_array()[..PIECE])?;
             at += BLOCK;
         }
         Ok(at)

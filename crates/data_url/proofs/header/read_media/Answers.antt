@@ -1,9 +1,8 @@
-use Rattle.std.proofs.{Common.{arith, refl, subst}, lemmas.Result.{IfOk-weaker}}
-use Rattle.std.specs.Str.{chars}
+use Rattle.std.{proofs.Common.{arith, refl, subst}, proofs.lemmas.Result.{IfOk-weaker}, specs.Str.{chars}}
 use Rattle.data_url.specs.{Fetch.{with_plain}, Mime.{HasNoRecord, IsHead}, MimeType.{record_of}}
 use Rattle.data_url.proofs.header.Stages.{default_for, parts_for, plain_added, plain_stays}
-use Rattle.data_url.proofs.{mime.FirstNames.{no_record}, header.read_media.Goals.{then-starts_with}}
-use Rattle.data_url.proofs.header.read_media.Goals.{else-starts_with+in-Some}
+use Rattle.data_url.proofs.header.read_media.Goals.{then-starts_with, else-starts_with+in-Some}
+use Rattle.data_url.proofs.mime.FirstNames.{no_record}
 use Rattle.data_url.proofs.header.read_media.Goals as goal
 
 pub returns : goal.returns

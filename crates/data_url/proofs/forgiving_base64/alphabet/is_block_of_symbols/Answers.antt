@@ -1,5 +1,4 @@
-use Rattle.std.proofs.Common.{◌∙◌, not, refl}
-use Rattle.std.proofs.lemmas.Bool.{agree_below_at}
+use Rattle.std.{proofs.Common.{◌∙◌, not, refl}, proofs.lemmas.Bool.{agree_below_at}}
 use Rattle.data_url.specs.{Base64.{is_symbol}, Steps.Classes.{is_marked}}
 use Rattle.data_url.specs.declared.forgiving_base64.alphabet.TheConstants.{SYMBOLS}
 use Rattle.data_url.proofs.forgiving_base64.Vectors.{all_agree}

@@ -1,9 +1,8 @@
-use Rattle.std.proofs.Common.{◌∙◌, ap, eqb, not, refl}
-use Rattle.std.proofs.lemmas.Bool.{agree_below_at}
-use lib.Lanes.{mask_l}
-use Rattle.data_url.specs.Steps.{Classes.{is_marked}, Groups.{is_symbol_or_space}}
+use Rattle.std.{proofs.Common.{◌∙◌, ap, eqb, not, refl}, proofs.lemmas.Bool.{agree_below_at}}
+use Rattle.data_url.specs.{Steps.Classes.{is_marked}, Steps.Groups.{is_symbol_or_space}}
 use Rattle.data_url.specs.declared.forgiving_base64.alphabet.TheConstants.{SPACED}
 use Rattle.data_url.proofs.forgiving_base64.Vectors.{map_agree, mask_zero}
+use lib.Lanes.{mask_l}
 use Rattle.data_url.proofs.forgiving_base64.alphabet.is_spaced.Goals as goal
 
 pub returns : goal.returns

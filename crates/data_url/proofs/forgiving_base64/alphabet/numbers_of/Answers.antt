@@ -1,5 +1,4 @@
-use Rattle.std.proofs.Common.{take}
-use Rattle.std.proofs.lemmas.Simd.{dot4_Fits}
+use Rattle.std.{proofs.Common.{take}, proofs.lemmas.Simd.{dot4_Fits}}
 use Rattle.data_url.specs.declared.forgiving_base64.alphabet.TheConstants.{LOWER_WEIGHTS, UPPER_WEIGHTS}
 use Rattle.data_url.proofs.{classes.Lookups.{four_rows}, forgiving_base64.Lanes.{computed_is}}
 use Rattle.data_url.proofs.forgiving_base64.alphabet.numbers_of.Goals as goal

@@ -1,8 +1,7 @@
-use Rattle.std.proofs.Common.{◌∙◌, ap, refl}
-use Rattle.std.proofs.lemmas.Bool.{agree_below_at}
-use lib.Lanes.{mask_l}
+use Rattle.std.{proofs.Common.{◌∙◌, ap, refl}, proofs.lemmas.Bool.{agree_below_at}}
 use Rattle.data_url.specs.{Steps.Classes.{is_marked}, declared.forgiving_base64.alphabet.TheConstants.{SYMBOLS}}
 use Rattle.data_url.proofs.forgiving_base64.Vectors.{is_other, map_agree}
+use lib.Lanes.{mask_l}
 use Rattle.data_url.proofs.forgiving_base64.alphabet.others.Goals as goal
 
 pub returns : goal.returns

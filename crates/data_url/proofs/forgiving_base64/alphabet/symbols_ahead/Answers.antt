@@ -1,5 +1,4 @@
-use Rattle.std.proofs.Common.{◌∙◌, ap}
-use Rattle.std.specs.Int.Count.{count_trailing_zeros}
+use Rattle.std.{proofs.Common.{◌∙◌, ap}, specs.Int.Count.{count_trailing_zeros}}
 use Rattle.data_url.proofs.forgiving_base64.Packed.{first_other, others_small}
 use Rattle.data_url.proofs.forgiving_base64.alphabet.symbols_ahead.Goals as goal
 

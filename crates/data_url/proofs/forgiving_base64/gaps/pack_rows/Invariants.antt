@@ -1,5 +1,4 @@
-use Rattle.std.proofs.Common.{◌-◌, ◌+◌, ◌≡◌, ◌≤◌, filter, length, take, true}
-use Rattle.std.specs.List.{list_all}
+use Rattle.std.{proofs.Common.{◌-◌, ◌+◌, ◌≡◌, ◌≤◌, filter, length, take, true}, specs.List.{list_all}}
 use Rattle.data_url.specs.{Base64.{is_symbol}, Steps.Groups.{is_symbol_or_space}}
 use Rattle.data_url.proofs.forgiving_base64.gaps.pack_rows.Given as goal
 

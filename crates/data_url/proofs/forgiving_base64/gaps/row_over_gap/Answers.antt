@@ -1,6 +1,5 @@
 use Rattle.std.proofs.Common.{◌∙◌, ◌+◌, ◌-◌, ◌≡◌, ◌++◌, ap, ap₂, arith, drop, drop-drop, sym, take, take-take}
-use Rattle.std.proofs.lemmas.List.{drop-take, take_rest}
-use Rattle.std.specs.{Char.{is_ascii_whitespace}, List.{prefix_len}}
+use Rattle.std.{proofs.lemmas.List.{drop-take, take_rest}, specs.Char.{is_ascii_whitespace}, specs.List.{prefix_len}}
 use Rattle.data_url.proofs.forgiving_base64.Groups.{over_gap, prefix_passes}
 use Rattle.data_url.proofs.forgiving_base64.gaps.row_over_gap.Goals as goal
 

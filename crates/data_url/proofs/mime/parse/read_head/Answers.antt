@@ -1,5 +1,4 @@
-use Rattle.std.proofs.Common.{◌≡◌, ◌==◌, arith, false, length}
-use Rattle.std.specs.Str.{chars}
+use Rattle.std.{proofs.Common.{◌≡◌, ◌==◌, arith, false, length}, specs.Str.{chars}}
 use Rattle.data_url.proofs.{mime.Parsing.{no_parameters, no_slash, no_subtype}, texts.CodePoints.{same_empty}}
 use Rattle.data_url.proofs.mime.parse.read_head.Goals as goal
 

@@ -1,5 +1,4 @@
-use Rattle.std.proofs.Common.{arith}
-use Rattle.std.specs.Str.{chars}
+use Rattle.std.{proofs.Common.{arith}, specs.Str.{chars}}
 use Rattle.data_url.proofs.{mime.Parsing.{parameter_by}, mime.parse.read_parameter.Goals.{in-Some, in-None}}
 use Rattle.data_url.proofs.mime.parse.read_parameter.Goals as goal
 

@@ -1,6 +1,5 @@
 -- The pairs so far, with those that are kept of the rest; the rest of the text gets shorter.
-use Rattle.std.proofs.Common.{length}
-use Rattle.std.specs.Str.{chars}
+use Rattle.std.{proofs.Common.{length}, specs.Str.{chars}}
 use Rattle.data_url.specs.Steps.Kept.{IsIndexed, pairs_of}
 use Rattle.data_url.proofs.mime.FirstNames.{KeepsOn}
 use denote.Shadow.{shadow}

@@ -1,6 +1,5 @@
 use Rattle.std.{proofs.Common.{◌+◌, arith, take_all}, proofs.lemmas.Result.{err_from_is_err_and}, specs.Fn.{CalledAt}}
-use Rattle.data_url.proofs.forgiving_base64.Holding.{reads_fault, reads_feeds}
-use Rattle.data_url.proofs.forgiving_base64.Steps.{feeds_stop}
+use Rattle.data_url.proofs.{forgiving_base64.Holding.{reads_fault, reads_feeds}, forgiving_base64.Steps.{feeds_stop}}
 use Rattle.data_url.proofs.forgiving_base64.decode.Decoder.feed.Goals as goal
 
 pub returns-in_err-read-clause-fed : goal.returns-in_err-read-clause-fed

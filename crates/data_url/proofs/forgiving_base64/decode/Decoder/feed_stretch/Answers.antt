@@ -8,12 +8,14 @@ pub returns-in_err-place-clause-fed : goal.returns-in_err-place-clause-fed
 returns-in_err-place-clause-fed g c =
     let p = err_from_is_err_and c.from_residual.result c.from_residual.ensures.1 in
     let ended = c.in_err-place.ensures.read in
-    rw (p.1, p.2) (record {
-      at = ended.at;
-      within = ended.within;
-      plain = plain_after (left_over (state_of c.args.self.now)) _ ended.no_fault;
-      feeds = ended.feeds;
-    })
+    rw (p.1, p.2) (
+      ended.at,
+      record {
+        within = ended.within;
+        plain = plain_after (left_over (state_of c.args.self.now)) _ ended.no_fault;
+        feeds = ended.feeds;
+      },
+    )
 
 pub returns-in_default-clause-fed : goal.returns-in_default-clause-fed
 returns-in_default-clause-fed g c =
@@ -31,11 +33,13 @@ pub returns-clause-fed : goal.returns-clause-fed
 returns-clause-fed g c =
     let read = rw c.in-Some.is at c.in_ok-place.ensures.read in
     let byte = get_or c.args.stretch.now c.in_ok-place.place 0 in
-    rw c.refuse.ensures.kind (record {
-      at = c.in_ok-place.place + 1;
-      within = omega (arith, read.ends.0);
-      plain = plain_more c.args.stretch.now c.in_ok-place.place read.ends.0
-          (reads_plain (CalledAt g.F.FnMut) read.reads)
-          (cc (ne_eqb byte 35 c.if-byte-eq35.false, ne_eqb byte 37 c.if-byte-eq37.false));
-      feeds = reads_fault (CalledAt g.F.FnMut) c.args.stretch.now c.in_ok-place.place read c.refuse.ensures.state;
-    })
+    rw c.refuse.ensures.kind (
+      c.in_ok-place.place + 1,
+      record {
+        within = omega (arith, read.ends.0);
+        plain = plain_more c.args.stretch.now c.in_ok-place.place read.ends.0
+            (reads_plain (CalledAt g.F.FnMut) read.reads)
+            (cc (ne_eqb byte 35 c.if-byte-eq35.false, ne_eqb byte 37 c.if-byte-eq37.false));
+        feeds = reads_fault (CalledAt g.F.FnMut) c.args.stretch.now c.in_ok-place.place read c.refuse.ensures.state;
+      },
+    )

@@ -1,6 +1,5 @@
 use Rattle.std.proofs.Common.{[], ◌+◌, ◌∙◌, append-nil, ap, arith, drop, length, length-drop, length-take-le, sym, take}
-use Rattle.std.{proofs.Common.{take-append-drop}, proofs.lemmas.Result.{err_from_is_err_and}}
-use Rattle.std.specs.Fn.{CalledAt}
+use Rattle.std.{proofs.Common.{take-append-drop}, proofs.lemmas.Result.{err_from_is_err_and}, specs.Fn.{CalledAt}}
 use Rattle.data_url.specs.{Decoder.{state_of}, Steps.Groups.{held_bytes}}
 use Rattle.data_url.proofs.forgiving_base64.Holding.{ends_within, held_len, reads_gained, reads_to}
 use Rattle.data_url.proofs.forgiving_base64.decode.Decoder.read.Goals as goal

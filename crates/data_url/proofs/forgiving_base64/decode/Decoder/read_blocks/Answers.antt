@@ -1,4 +1,4 @@
-use Rattle.std.{proofs.Common.{[], append-nil, sym, ◌∙◌, ◌+◌, arith}, proofs.lemmas.Result.{err_from_is_err_and}}
+use Rattle.std.{proofs.Common.{[], append-nil, length-take-le, sym, take, ◌∙◌, ◌+◌, arith}, proofs.lemmas.Result.{err_from_is_err_and}}
 use Rattle.std.specs.Fn.{CalledAt}
 use Rattle.data_url.proofs.forgiving_base64.Holding.{block_reads, ends_within, reads_called, reads_none, reads_refused}
 use Rattle.data_url.proofs.forgiving_base64.Steps.{sound}
@@ -16,16 +16,20 @@ loop-at-init g c = record {
   reads = reads_none (CalledAt g.F.FnMut) (sound c.args.self.now.state) c.requires.going;
 }
 
+pub slice_bounds-write-end-in-loop-at : goal.slice_bounds-write-end-in-loop-at
+slice_bounds-write-end-in-loop-at g c = sym (length-take-le 48 _ (omega (arith, c.decode_block.ensures.len)))
+
 pub returns-in_err-write-clause-read : goal.returns-in_err-write-clause-read
 returns-in_err-write-clause-read g c =
     let step = CalledAt g.F.FnMut in
     let p = err_from_is_err_and c.from_residual.result c.from_residual.ensures.1 in
     let i = c.loop-at.invariant in
     let reads = block_reads step c.args.text.now c.loop-at.at i.between (omega arith)
-    (sym c.if-not-is_block_of_symbols.false ∙ c.is_block_of_symbols.ensures) c.decode_block.ensures i.reads in
+    (sym c.if-not-is_block_of_symbols.false ∙ c.is_block_of_symbols.ensures) c.decode_block.ensures.bytes i.reads in
+    let bytes = take 48 c.decode_block.result in
+    let long = length-take-le 48 c.decode_block.result (omega (arith, c.decode_block.ensures.len)) in
     rw (p.1, p.2) (ends_within step (c.loop-at.at + 64) (omega arith) reads
-    (reads_refused step c.decode_block.result [] (omega arith) (rw (append-nil c.decode_block.result) reads)
-    c.in_err-write.ensures.called))
+    (reads_refused step bytes [] (omega (arith, long)) (rw (append-nil bytes) reads) c.in_err-write.ensures.called))
 
 pub loop-at-preserved : goal.loop-at-preserved
 loop-at-preserved g c =
@@ -33,10 +37,12 @@ loop-at-preserved g c =
     let i = c.loop-at.invariant in
     let w = c.in_ok-write.ensures.called in
     let reads = block_reads step c.args.text.now c.loop-at.at i.between (omega arith)
-    (sym c.if-not-is_block_of_symbols.false ∙ c.is_block_of_symbols.ensures) c.decode_block.ensures i.reads in
+    (sym c.if-not-is_block_of_symbols.false ∙ c.is_block_of_symbols.ensures) c.decode_block.ensures.bytes i.reads in
+    let bytes = take 48 c.decode_block.result in
+    let long = length-take-le 48 c.decode_block.result (omega (arith, c.decode_block.ensures.len)) in
     record {
       callable = c.in_ok-write.ensures.callable;
       between = (w.symbols_stay ∙ i.between.0, w.padding_stays ∙ i.between.1);
       within = omega arith;
-      reads = reads_called step c.decode_block.result [] (omega arith) (rw (append-nil c.decode_block.result) reads) w;
+      reads = reads_called step bytes [] (omega (arith, long)) (rw (append-nil bytes) reads) w;
     }

@@ -1,5 +1,4 @@
-use Rattle.std.proofs.Common.{◌-◌, ◌≤◌, arith, drop, length-drop, take-take}
-use Rattle.std.proofs.lemmas.List.Edits.{take-paste}
+use Rattle.std.{proofs.Common.{◌-◌, ◌≤◌, arith, drop, length-drop, take-take}, proofs.lemmas.List.Edits.{take-paste}}
 use Rattle.data_url.proofs.escapes.BlockMarks.{drop_taken}
 use Rattle.data_url.proofs.forgiving_base64.held.HeldGroups.drop_first.Goals as goal
 

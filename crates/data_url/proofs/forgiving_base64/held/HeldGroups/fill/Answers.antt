@@ -1,5 +1,4 @@
-use Rattle.std.proofs.Common.{arith, drop, take, take-add}
-use Rattle.std.proofs.lemmas.List.{take_rest}
+use Rattle.std.{proofs.Common.{arith, drop, take, take-add}, proofs.lemmas.List.{take_rest}}
 use Rattle.data_url.proofs.forgiving_base64.Groups.{fill_one, fills_nothing, fills_then}
 use Rattle.data_url.proofs.forgiving_base64.held.HeldGroups.fill.Goals as goal
 

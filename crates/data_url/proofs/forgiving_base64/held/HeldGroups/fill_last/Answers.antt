@@ -1,6 +1,5 @@
 use Rattle.std.proofs.Common.{◌*◌, ◌+◌, ◌-◌, ◌∙◌, ℕ, ◌≡◌, ◌≤◌, ◌++◌, ◌/◌, ap, arith, drop, length, length-append}
-use Rattle.std.proofs.Common.{length-drop}
-use Rattle.std.{proofs.Common.{replicate, take}, proofs.lemmas.List.{length-replicate}}
+use Rattle.std.{proofs.Common.{length-drop, replicate, take}, proofs.lemmas.List.{length-replicate}}
 use Rattle.data_url.specs.Steps.Groups.{Fills}
 use Rattle.data_url.proofs.forgiving_base64.Groups.{last_fills}
 use Rattle.data_url.proofs.forgiving_base64.held.HeldGroups.fill_last.Goals as goal

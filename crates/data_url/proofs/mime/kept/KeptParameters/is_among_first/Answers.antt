@@ -1,6 +1,5 @@
 use Rattle.std.proofs.Common.{⊎_elim, arith, ap, drop, map, refl, sym, take, ◌<◌, ◌≤◌, ◌==◌, ◌∙◌, eqb, w8}
-use Rattle.std.proofs.lemmas.{Bool.{cases_lt}, Simd.{bitmask_splat}}
-use Rattle.std.specs.Simd.Lanes.{mask_l}
+use Rattle.std.{proofs.lemmas.Bool.{cases_lt}, proofs.lemmas.Simd.{bitmask_splat}, specs.Simd.Lanes.{mask_l}}
 use Rattle.data_url.specs.Steps.Kept.{first_of, pairs_of}
 use Rattle.data_url.proofs.mime.FirstNames.{row_len, all_unnamed, first_len}
 use Rattle.data_url.proofs.mime.kept.KeptParameters.is_among_first.Goals as goal

@@ -1,6 +1,5 @@
 -- No pair of the rows so far has the name.
-use Rattle.std.proofs.Common.{◌-◌, map}
-use Rattle.std.specs.{Char.{to_ascii_lowercase}, Str.{chars}}
+use Rattle.std.{proofs.Common.{◌-◌, map}, specs.Char.{to_ascii_lowercase}, specs.Str.{chars}}
 use Rattle.data_url.specs.Steps.Kept.{AreUnnamed, first_of, pairs_of}
 use Rattle.data_url.proofs.mime.kept.KeptParameters.is_among_first.Given as goal
 

@@ -1,6 +1,5 @@
 -- The bits that are left are those of pairs of the row that are not compared yet.
-use Rattle.std.proofs.Common.{map}
-use Rattle.std.specs.{Char.{to_ascii_lowercase}, Str.{chars}}
+use Rattle.std.{proofs.Common.{map}, specs.Char.{to_ascii_lowercase}, specs.Str.{chars}}
 use Rattle.data_url.specs.Steps.Kept.{first_of, pairs_of}
 use Rattle.data_url.proofs.mime.FirstNames.{NoneUnset}
 use Rattle.data_url.proofs.mime.kept.KeptParameters.is_in_row.Given as goal

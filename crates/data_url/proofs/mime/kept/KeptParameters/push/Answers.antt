@@ -1,5 +1,4 @@
-use Rattle.std.proofs.Common.{arith, ap, map, refl, set, string_bytes, ◌∙◌}
-use Rattle.std.specs.Char.{to_ascii_lowercase}
+use Rattle.std.{proofs.Common.{arith, ap, map, refl, set, string_bytes, ◌∙◌}, specs.Char.{to_ascii_lowercase}}
 use Rattle.data_url.specs.{Steps.Kept.{fingerprint_of}, declared.mime.kept.KeptParameters.{KeptParameters}}
 use Rattle.data_url.proofs.mime.FirstNames.{pushed_first, pushed_later, some_byte}
 use Rattle.data_url.proofs.mime.kept.KeptParameters.push.Goals as goal
