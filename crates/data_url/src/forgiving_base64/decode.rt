@@ -131,7 +131,9 @@ where
             if !is_block_of_symbols(block) {
                 return Ok(at);
             }
-            self.write(&decode_block(block).to_array()[..PIECE])?;
+            let mut bytes = [0; BLOCK];
+            decode_block(block).copy_to_slice(&mut bytes);
+            self.write(&bytes[..PIECE])?;
             at += BLOCK;
         }
         Ok(at)

@@ -1,5 +1,5 @@
-use Rattle.std.{proofs.Common.{[], append-nil, length-take-le, sym, take, ◌∙◌, ◌+◌, arith}, proofs.lemmas.Result.{err_from_is_err_and}}
-use Rattle.std.specs.Fn.{CalledAt}
+use Rattle.std.proofs.Common.{[], append-nil, length-take-le, replicate, sym, take, ◌∙◌, ◌+◌, arith}
+use Rattle.std.{proofs.lemmas.{Result.{err_from_is_err_and}, Simd.{put_chunk_whole}}, specs.Fn.{CalledAt}}
 use Rattle.data_url.proofs.forgiving_base64.Holding.{block_reads, ends_within, reads_called, reads_none, reads_refused}
 use Rattle.data_url.proofs.forgiving_base64.Steps.{sound}
 use Rattle.data_url.proofs.forgiving_base64.decode.Decoder.read_blocks.Goals as goal
@@ -16,9 +16,6 @@ loop-at-init g c = record {
   reads = reads_none (CalledAt g.F.FnMut) (sound c.args.self.now.state) c.requires.going;
 }
 
-pub slice_bounds-write-end-in-loop-at : goal.slice_bounds-write-end-in-loop-at
-slice_bounds-write-end-in-loop-at g c = sym (length-take-le 48 _ (omega (arith, c.decode_block.ensures.len)))
-
 pub returns-in_err-write-clause-read : goal.returns-in_err-write-clause-read
 returns-in_err-write-clause-read g c =
     let step = CalledAt g.F.FnMut in
@@ -29,13 +26,16 @@ returns-in_err-write-clause-read g c =
     let bytes = take 48 c.decode_block.result in
     let long = length-take-le 48 c.decode_block.result (omega (arith, c.decode_block.ensures.len)) in
     rw (p.1, p.2) (ends_within step (c.loop-at.at + 64) (omega arith) reads
-    (reads_refused step bytes [] (omega (arith, long)) (rw (append-nil bytes) reads) c.in_err-write.ensures.called))
+    (reads_refused step bytes [] (omega (arith, long)) (rw (append-nil bytes) reads)
+    (rw (put_chunk_whole (replicate 64 0) c.decode_block.result (sym c.decode_block.ensures.len)) at
+    c.in_err-write.ensures.called)))
 
 pub loop-at-preserved : goal.loop-at-preserved
 loop-at-preserved g c =
     let step = CalledAt g.F.FnMut in
     let i = c.loop-at.invariant in
-    let w = c.in_ok-write.ensures.called in
+    let w = rw (put_chunk_whole (replicate 64 0) c.decode_block.result (sym c.decode_block.ensures.len)) at
+    c.in_ok-write.ensures.called in
     let reads = block_reads step c.args.text.now c.loop-at.at i.between (omega arith)
     (sym c.if-not-is_block_of_symbols.false ∙ c.is_block_of_symbols.ensures) c.decode_block.ensures.bytes i.reads in
     let bytes = take 48 c.decode_block.result in
