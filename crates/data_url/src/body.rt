@@ -12,8 +12,8 @@ use std::alloc::{AllocError, Global};
 /// The most room, in bytes of the text, that is allocated first for a body that is likely to be shorter than its text.
 const FIRST_ROOM: usize = 64 * 1024;
 
-/// How many bytes of a tail the decoder reads at once, at most.
-const STRETCH: usize = 4096;
+/// How many bytes of a tail the decoder is fed at once, at most.
+const FED_AT_ONCE: usize = 4096;
 
 /// How many bytes of a long text are looked at before room is allocated for it.
 const PROBED: usize = 4 * 1024;
@@ -39,7 +39,7 @@ where
     Ok(pieces.end())
 }
 
-/// Decodes a tail up to its first `#` or `%`, stretch by stretch, so that a fault is found before much of the text after it is read.
+/// Decodes a tail up to its first `#` or `%`, part by part, so that a fault is found before much of the text after it is read.
 /// Returns the place of that byte, or the length of the tail.
 fn feed_front<F, E>(decoder: &mut Decoder<F, E>, tail: &[u8]) -> Result<usize, DecodeError<E>>
 where
@@ -53,10 +53,10 @@ where
     let mut place = 0;
     while place < tail.len() {
         let rest = &tail[place..];
-        let stretch = &rest[..rest.len().min(STRETCH)];
-        let len = decoder.feed_stretch(stretch)?;
+        let part = &rest[..rest.len().min(FED_AT_ONCE)];
+        let len = decoder.feed_unescaped(part)?;
         place += len;
-        if len < stretch.len() {
+        if len < part.len() {
             return Ok(place);
         }
     }

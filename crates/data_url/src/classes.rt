@@ -114,6 +114,7 @@ pub(crate) fn long_span(class: Class, bytes: &[u8]) -> usize
         Class::PlainPath => [
             129, 129, 129, 131, 129, 129, 129, 129, 129, 129, 129, 129, 131, 129, 129, 197,
         ],
+        Class::Path => [0, 0, 0, 0, 0, 0, 0, 0, 0, 0, 0, 0, 0, 0, 0, 4],
         Class::Unescaped => ESCAPED,
         _ => [255; 16],
     };

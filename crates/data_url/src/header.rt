@@ -6,7 +6,7 @@ ghost use Rattle.data_url.specs.Mime.{Record, default_record};
 ghost use Rattle.data_url.specs.Steps.Header.{IsHeaderOf, IsPathAndQuery, IsPrintable, IsRecordFor, IsSerialised, encoded_parts, header_text};
 ghost use Rattle.data_url.specs.MimeType.{as_option, record_of};
 
-use crate::classes::{Class, end_span, span};
+use crate::classes::{Class, end_span, long_span};
 use crate::mime::{Mime, plain_head, read_head};
 use crate::percent::{EncodeSet, PART, push_encoded};
 use crate::split::trim;
@@ -36,7 +36,7 @@ fn serialised(alloc: Global, header: &[u8]) -> Result<String, AllocError>
         ≡ header_text (without_tabs_and_newlines header.now)) }
 {
     let mut text = String::with_capacity(alloc, header.len() + 2 * header.len().min(PART))?;
-    let (path, query) = header.split_at(span(Class::Path, header));
+    let (path, query) = header.split_at(long_span(Class::Path, header));
     let (path, space) = split_last_space(path, query);
     push_encoded(&mut text, EncodeSet::Path, path)?;
     text.push_str(space)?;

@@ -23,7 +23,7 @@ pub(crate) enum EncodeSet {
 }
 
 /// How many bytes are tested at most before they are copied, so that they are still in the processor's first cache then.
-const STRETCH: usize = 16 * 1024;
+const TESTED_AT_ONCE: usize = 16 * 1024;
 
 /// How many bytes are encoded by the table at a time.
 pub(crate) const PART: usize = 128;
@@ -46,8 +46,8 @@ fn encode_next<'a: 'r, 'r>(
     ensures less { 0 < length bytes.now → length result.1.now < length bytes.now }
 {
     let (part, after_part) = bytes.split_at(bytes.len().min(PART));
-    let stretch = &bytes[..bytes.len().min(STRETCH)];
-    let (kept, after) = bytes.split_at(rows_len(others(set), stretch));
+    let tested = &bytes[..bytes.len().min(TESTED_AT_ONCE)];
+    let (kept, after) = bytes.split_at(rows_len(others(set), tested));
     if 2 * kept.len() >= part.len() {
         return (kept, after);
     }

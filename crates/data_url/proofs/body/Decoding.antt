@@ -203,26 +203,26 @@ record IsBodyOf (tail bytes : List ℕ) : Type 0 where
   few : length bytes ≤ length tail
   alike : without_whitespace (plain_body tail) ≡ without_whitespace bytes
 
--- a stretch of a tail ends where the tail does, at the latest
-stretch_within : (tail : List ℕ) {stretch : List ℕ} (at m : ℕ) → stretch ≡ take m (drop at tail)
-    → (length stretch ≤ m) × (length stretch ≤ length tail - at)
-stretch_within tail at m is =
+-- a part of a tail ends where the tail does, at the latest
+part_within : (tail : List ℕ) {part : List ℕ} (at m : ℕ) → part ≡ take m (drop at tail)
+    → (length part ≤ m) × (length part ≤ length tail - at)
+part_within tail at m is =
     let size = ap length is ∙ length-take m (drop at tail) in
     let rest = length-drop at tail in
     (omega (arith, size), omega (arith, size, rest))
 
--- the bytes before a stretch of a tail, and then some of the stretch
-in_stretch : (tail : List ℕ) {stretch : List ℕ} (at m n : ℕ) → n ≤ length stretch → stretch ≡ take m (drop at tail)
-    → take at tail ++ take n stretch ≡ take (at + n) tail
-in_stretch tail at m n l is =
-    let few : n ≤ m = omega (arith, l, (stretch_within tail at m is).0) in
+-- the bytes before a part of a tail, and then some of the part
+in_part : (tail : List ℕ) {part : List ℕ} (at m n : ℕ) → n ≤ length part → part ≡ take m (drop at tail)
+    → take at tail ++ take n part ≡ take (at + n) tail
+in_part tail at m n l is =
+    let few : n ≤ m = omega (arith, l, (part_within tail at m is).0) in
     ap (λ t. take at tail ++ t) (ap (take n) is ∙ take-take n m (drop at tail) few) ∙ sym (take-add at n tail)
 
--- the byte at a place in a stretch
-pub stretch_byte : (tail : List ℕ) {stretch : List ℕ} (at m n : ℕ) → n < length stretch
-    → stretch ≡ take m (drop at tail) → get_or stretch n 0 ≡ get_or tail (at + n) 0
-stretch_byte tail at m n l is =
-    let few : n < m = omega (arith, l, (stretch_within tail at m is).0) in
+-- the byte at a place in a part
+pub part_byte : (tail : List ℕ) {part : List ℕ} (at m n : ℕ) → n < length part
+    → part ≡ take m (drop at tail) → get_or part n 0 ≡ get_or tail (at + n) 0
+part_byte tail at m n l is =
+    let few : n < m = omega (arith, l, (part_within tail at m is).0) in
     ap (λ t. get_or t n 0) is ∙ get_or-take m (drop at tail) n 0 few ∙ get_or-drop at tail n 0
 
 -- the front of a tail as it is, and then the body from there on
@@ -286,16 +286,16 @@ module _ {F E : Type 0} (step : F → List ℕ → Result (Unit {0}) E → F →
   outcome_of {f} {g} {text} {u} place r e d b =
       rw (outcome_alike (plain_body text) u e.alike) (outcome_whole place r e.few d b)
 
-  -- after the front of a tail, a decoder is fed some of a stretch of it
-  pub front_more : {d d1 d2 : State F} {tail stretch : List ℕ} {r : Result (Unit {0}) (DecodeError E)} (at m n : ℕ)
-      → stretch ≡ take m (drop at tail) → FeedsFront step d tail at (Ok tt) d1 → FeedsFront step d1 stretch n r d2
+  -- after the front of a tail, a decoder is fed some of a part of it
+  pub front_more : {d d1 d2 : State F} {tail part : List ℕ} {r : Result (Unit {0}) (DecodeError E)} (at m n : ℕ)
+      → part ≡ take m (drop at tail) → FeedsFront step d tail at (Ok tt) d1 → FeedsFront step d1 part n r d2
       → FeedsFront step d tail (at + n) r d2
-  front_more {d} {d2 = d2} {tail} {stretch} {r} at m n is k h =
-      let joined = in_stretch tail at m n h.within is in
+  front_more {d} {d2 = d2} {tail} {part} {r} at m n is k h =
+      let joined = in_part tail at m n h.within is in
       record {
-        within = omega (arith, k.within, h.within, (stretch_within tail at m is).1);
+        within = omega (arith, k.within, h.within, (part_within tail at m is).1);
         plain = subst (λ t. list_all is_plain t ≡ true) joined
-            (list_all-append is_plain (take at tail) (take n stretch) ∙ ap₂ (λ a b. a && b) k.plain h.plain);
+            (list_all-append is_plain (take at tail) (take n part) ∙ ap₂ (λ a b. a && b) k.plain h.plain);
         feeds = subst (λ t. Feeds step d t r d2) joined (feeds_then step k.feeds h.feeds);
       }
 

@@ -190,22 +190,22 @@ where
         }
     }
 
-    /// Decodes a stretch of the tail of a data: URL up to its first `#` or `%`, as `feed` does. Returns the place of that byte, or the
-    /// length of the stretch. An error is that of `feed` with bytes before that place.
+    /// Decodes a part of the tail of a data: URL up to its first `#` or `%`, as `feed` does. Returns the place of that byte, or the
+    /// length of the part. An error is that of `feed` with bytes before that place.
     #[inline(always)]
-    pub(crate) fn feed_stretch(&mut self, stretch: &[u8]) -> Result<usize, DecodeError<E>>
-        requires few { length stretch.now ≤ 4096 }
+    pub(crate) fn feed_unescaped(&mut self, part: &[u8]) -> Result<usize, DecodeError<E>>
+        requires few { length part.now ≤ 4096 }
         requires callable { F.IsAlwaysCallable (state_of self.old).closure }
         requires going { (state_of self.old).failed ≡ false }
         ensures callable { F.IsAlwaysCallable (state_of self.new).closure }
-        ensures fed { FeedsUnescaped (CalledAt F.FnMut) (state_of self.old) stretch.now result
+        ensures fed { FeedsUnescaped (CalledAt F.FnMut) (state_of self.old) part.now result
             (state_of self.new) }
     {
-        let (place, fault) = self.read(stretch)?;
+        let (place, fault) = self.read(part)?;
         let Some(details) = fault else {
             return Ok(place);
         };
-        let byte = stretch[place];
+        let byte = part[place];
         if byte == b'#' || byte == b'%' {
             return Ok(place);
         }

@@ -1,7 +1,7 @@
 use Rattle.std.{proofs.Common.{◌∙◌, ap, arith, sym, take}, proofs.lemmas.Result.{err_from_is_err_and}}
 use Rattle.std.{proofs.lemmas.List.{take_rest}, specs.Fn.{CalledAt}}
 use Rattle.data_url.specs.Steps.Window.{is_plain}
-use Rattle.data_url.proofs.body.Decoding.{front_more, stretch_byte}
+use Rattle.data_url.proofs.body.Decoding.{front_more, part_byte}
 use Rattle.data_url.proofs.forgiving_base64.{Holding.{reads_front, reads_none}, Steps.{sound}}
 use Rattle.data_url.proofs.body.feed_front.Goals as goal
 
@@ -20,15 +20,15 @@ returns-in_err-len-clause-fed g c =
     let front = c.loop-place.invariant.front in
     rw (p.1, p.2) (_, front_more (CalledAt g.F.FnMut) c.loop-place.place c.min.result ended.0 is front ended.1)
 
-pub returns-then-len-stretch-clause-fed : goal.returns-then-len-stretch-clause-fed
-returns-then-len-stretch-clause-fed g c =
+pub returns-then-len-part-clause-fed : goal.returns-then-len-part-clause-fed
+returns-then-len-part-clause-fed g c =
     let at = c.loop-place.place in
     let n = c.in_ok-len.len in
     let fed = c.in_ok-len.ensures.fed in
     let is = ap (take c.min.result) (take_rest c.args.tail.now at) in
-    let byte = stretch_byte c.args.tail.now at c.min.result n c.if-len-stretch.true is in (
+    let byte = part_byte c.args.tail.now at c.min.result n c.if-len-part.true is in (
       front_more (CalledAt g.F.FnMut) at c.min.result n is c.loop-place.invariant.front fed.0,
-      λ l. ap is_plain (sym byte) ∙ fed.1 c.if-len-stretch.true,
+      λ l. ap is_plain (sym byte) ∙ fed.1 c.if-len-part.true,
     )
 
 pub loop-place-preserved : goal.loop-place-preserved

@@ -2,7 +2,7 @@ use Rattle.std.{proofs.Common.{◌+◌, arith}, proofs.lemmas.Result.{err_from_i
 use Rattle.std.proofs.{Common.{ap, get_or, inl, inr}, lemmas.Bool.{ne_eqb}}
 use Rattle.data_url.specs.{Decoder.{left_over, state_of}, Steps.Window.{is_plain}}
 use Rattle.data_url.proofs.forgiving_base64.Holding.{plain_after, plain_more, reads_fault, reads_front, reads_plain}
-use Rattle.data_url.proofs.forgiving_base64.decode.Decoder.feed_stretch.Goals as goal
+use Rattle.data_url.proofs.forgiving_base64.decode.Decoder.feed_unescaped.Goals as goal
 
 pub returns-in_err-place-clause-fed : goal.returns-in_err-place-clause-fed
 returns-in_err-place-clause-fed g c =
@@ -32,14 +32,14 @@ returns-then-byte-eq35-clause-fed g c =
 pub returns-clause-fed : goal.returns-clause-fed
 returns-clause-fed g c =
     let read = rw c.in-Some.is at c.in_ok-place.ensures.read in
-    let byte = get_or c.args.stretch.now c.in_ok-place.place 0 in
+    let byte = get_or c.args.part.now c.in_ok-place.place 0 in
     rw c.refuse.ensures.kind (
       c.in_ok-place.place + 1,
       record {
         within = omega (arith, read.ends.0);
-        plain = plain_more c.args.stretch.now c.in_ok-place.place read.ends.0
+        plain = plain_more c.args.part.now c.in_ok-place.place read.ends.0
             (reads_plain (CalledAt g.F.FnMut) read.reads)
             (cc (ne_eqb byte 35 c.if-byte-eq35.false, ne_eqb byte 37 c.if-byte-eq37.false));
-        feeds = reads_fault (CalledAt g.F.FnMut) c.args.stretch.now c.in_ok-place.place read c.refuse.ensures.state;
+        feeds = reads_fault (CalledAt g.F.FnMut) c.args.part.now c.in_ok-place.place read c.refuse.ensures.state;
       },
     )
