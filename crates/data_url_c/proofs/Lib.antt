@@ -1,3 +1,4 @@
+pub mod BareLemmas
 pub mod BodyLemmas
 pub mod CommaLemmas
 pub mod EndLemmas

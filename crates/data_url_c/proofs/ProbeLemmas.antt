@@ -224,7 +224,7 @@ front_stays s rest t e =
     cc (append_assoc (before 35 s) (35 ∷ rest) t, before_at 35 (before 35 s) (rest ++ t) cut.lacks)
 
 -- a text with a scheme, and without '#' before its first comma, is accepted with its serialised header
-accepted_with : (a t : List ℕ) (s : HasScheme (trimmed_front a)) → after 44 s.rest ≡ None → after 35 s.rest ≡ None
+pub accepted_with : (a t : List ℕ) (s : HasScheme (trimmed_front a)) → after 44 s.rest ≡ None → after 35 s.rest ≡ None
     → IsBytes (trimmed_text (a ++ 44 ∷ t))
     → IsAcceptedWith (a ++ 44 ∷ t) (header_text (without_tabs_and_newlines s.rest)) (trimmed_tail t)
 accepted_with a t s comma hash b =

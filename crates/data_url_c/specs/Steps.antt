@@ -1,4 +1,5 @@
 -- What private functions return: definitions that no contract of an exported function uses.
+pub mod Bare
 pub mod Opening
 pub mod Windows
 use Rattle.std.specs.Global.{Global}

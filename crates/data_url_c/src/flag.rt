@@ -9,10 +9,10 @@ ghost use Rattle.data_url.proofs.api.{header_text, is_plain_path};
 ghost use Rattle.data_url_c.specs.Steps.Opening.{HasFlag};
 
 /// The scheme.
-const SCHEME: &[u8; 5] = b"data:";
+pub(crate) const SCHEME: &[u8; 5] = b"data:";
 
 /// The end of the header of a base64 body.
-const SUFFIX: [u8; 7] = *b";base64";
+pub(crate) const SUFFIX: [u8; 7] = *b";base64";
 
 /// Returns whether a byte of a path is serialised as it is, and is none of `#`, `,` and `?`.
 fn is_plain_path(byte: u8) -> bool

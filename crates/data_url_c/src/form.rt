@@ -24,7 +24,7 @@ const DEFAULT_PARTS: &[u8; 56] = b"\x04\0\0\0\0\0\0\0text\x05\0\0\0\0\0\0\0plain
 \x07\0\0\0\0\0\0\0charset\x08\0\0\0\0\0\0\0US-ASCII";
 
 /// How many bytes the length of a part takes.
-const LENGTH: usize = 8;
+pub(crate) const LENGTH: usize = 8;
 
 /// The most bytes that a result has.
 const MOST: usize = 0x7fff_ffff_ffff_ffff;
@@ -49,11 +49,11 @@ fn parts_len(mime: &Mime) -> usize
 
 /// Writes a text as a part to an output, after the bytes that are written, if it fits.
 #[inline(always)]
-fn push_part(out: &mut [u8], len: &mut usize, text: &str)
+pub(crate) fn push_part(out: &mut [u8], len: &mut usize, text: &[u8])
     ensures { Writes (part text.now) out.old len.old out.new len.new }
 {
     push(out, len, &text.len().to_le_bytes());
-    push(out, len, text.as_bytes());
+    push(out, len, text);
 }
 
 /// Writes a record in parts to the start of an output that has room for it. Returns its length.
@@ -62,11 +62,11 @@ fn write_parts(mime: &Mime, out: &mut [u8]) -> usize
     ensures { WritesFront (parts_of (record_of mime.now)) out.old out.new result }
 {
     let mut len = 0;
-    push_part(out, &mut len, &mime.type_);
-    push_part(out, &mut len, &mime.subtype);
+    push_part(out, &mut len, mime.type_.as_bytes());
+    push_part(out, &mut len, mime.subtype.as_bytes());
     for (name, value) in &mime.parameters {
-        push_part(out, &mut len, name);
-        push_part(out, &mut len, value);
+        push_part(out, &mut len, name.as_bytes());
+        push_part(out, &mut len, value.as_bytes());
     }
     len
 }

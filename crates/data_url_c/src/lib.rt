@@ -30,6 +30,7 @@ ghost use Rattle.data_url_c.specs.Opens.{Opens, OpensInParts};
 ghost use Rattle.data_url_c.specs.Parts.{FeedsPart, FinishesPart};
 
 mod answer;
+mod bare;
 mod base64;
 mod body;
 mod comma;

@@ -10,6 +10,7 @@ ghost use Rattle.data_url_c.specs.Steps.{HasLength, ReadsProbe, form_of};
 ghost use Rattle.data_url_c.specs.Steps.Opening.{IsRefused, ReadsUrl, WritesType};
 
 use crate::answer::{DataUrlAnswer, answer};
+use crate::bare::{bare_of, show_bare};
 use crate::comma::comma_of;
 use crate::flag::flag_of;
 use crate::form::{show_default, show_record};
@@ -135,6 +136,9 @@ fn read_url(
 {
     if text.as_bytes().starts_with(NO_HEADER) {
         return Ok((show_default(in_parts, out), false));
+    }
+    if let Some(bare) = bare_of(text, comma) {
+        return Ok((show_bare(bare, in_parts, out), bare.is_base64));
     }
     if let Some(is_base64) = flag_of(text, comma) {
         return match write_type(alloc, text, in_parts, out) {

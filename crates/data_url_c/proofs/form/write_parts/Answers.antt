@@ -2,13 +2,13 @@ use Rattle.data_url_c.proofs.FormLemmas.{written_all, written_first, written_mor
 use Rattle.data_url_c.proofs.form.write_parts.Goals as goal
 
 pub loop-name-init : goal.loop-name-init
-loop-name-init c = written_first c.args.mime.now c.deref.result.now c.deref-2.result.now c.deref.ensures
-    c.deref-2.ensures c.push_part.ensures c.push_part-2.ensures
+loop-name-init c = written_first c.args.mime.now c.as_bytes.result.now c.as_bytes-2.result.now c.as_bytes.ensures.value
+    c.as_bytes-2.ensures.value c.push_part.ensures c.push_part-2.ensures
 
 pub loop-name-preserved : goal.loop-name-preserved
-loop-name-preserved c = written_more _ c.deref-in-loop-name.result.now c.deref-in-loop-name-2.result.now
+loop-name-preserved c = written_more _ c.as_bytes-in-loop-name.result.now c.as_bytes-in-loop-name-2.result.now
     c.loop-name.invariant c.deref-name-items.ensures.value c.loop-name-test.true c.loop-name-item.is
-    c.deref-in-loop-name.ensures c.deref-in-loop-name-2.ensures c.push_part-in-loop-name.ensures
+    c.as_bytes-in-loop-name.ensures.value c.as_bytes-in-loop-name-2.ensures.value c.push_part-in-loop-name.ensures
     c.push_part-in-loop-name-2.ensures
 
 pub returns : goal.returns
