@@ -12,7 +12,7 @@ use crate::flag::{SCHEME, SUFFIX};
 use crate::form::{LENGTH, push_part};
 
 /// The most bytes before the comma: a type and a subtype have at most 127 bytes each (RFC 6838, section 4.2).
-const MOST: usize = 267;
+const LONGEST: usize = 267;
 
 /// A header that is written as it is.
 #[derive(Clone, Copy)]
@@ -73,7 +73,7 @@ pub(crate) fn bare_of(text: &str, comma: usize) -> Option<Bare<'_>>
     requires { comma < length text.now }
     ensures { IfSome result (λ bare. IsBare (take comma text.now) bare.media.now bare.slash bare.is_base64) }
 {
-    if comma > MOST {
+    if comma > LONGEST {
         return None;
     }
     let header = text.as_bytes()[..comma].strip_prefix(SCHEME)?;
