@@ -1,4 +1,5 @@
 pub mod BareLemmas
+pub mod BareUrlLemmas
 pub mod BodyLemmas
 pub mod CommaLemmas
 pub mod EndLemmas

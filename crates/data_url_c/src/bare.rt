@@ -5,13 +5,14 @@ ghost use Rattle.std.specs.List.{prefix_len};
 ghost use Rattle.data_url_c.specs.Answers.{Shows};
 ghost use Rattle.data_url_c.specs.Forms.{part};
 ghost use Rattle.data_url_c.specs.Steps.{form_of};
-ghost use Rattle.data_url_c.specs.Steps.Bare.{IsBare, IsMedia, IsName, is_bare, record_at, suffix_text};
+ghost use Rattle.data_url_c.specs.Steps.Bare.{IsBare, IsMedia, bare_record, is_bare, suffix_text};
 
 use crate::answer::{DONE, DataUrlAnswer, OUTPUT_TOO_SMALL, show};
 use crate::flag::{SCHEME, SUFFIX};
 use crate::form::{LENGTH, push_part};
 
-/// The most bytes before the comma: a type and a subtype have at most 127 bytes each (RFC 6838, section 4.2).
+/// The most bytes before the comma of such a header. A type and a subtype have at most 127 bytes each
+/// ([RFC 6838, section 4.2](https://www.rfc-editor.org/rfc/rfc6838#section-4.2)).
 const LONGEST: usize = 267;
 
 /// A header that is written as it is.
@@ -30,7 +31,10 @@ pub(crate) struct Bare<'a> {
 fn is_bare(byte: u8) -> bool
     ensures { result ≡ is_bare byte }
 {
-    matches!(byte, b'a'..=b'z' | b'0'..=b'9' | b'+' | b'-' | b'.')
+    if byte >= b'a' {
+        return byte <= b'z';
+    }
+    matches!(byte, b'0'..=b'9' | b'+' | b'-' | b'.')
 }
 
 /// Returns a header without `;base64` at its end, and whether it was there.
@@ -57,6 +61,9 @@ fn name_len(bytes: &[u8]) -> usize
 fn slash_of(media: &[u8]) -> Option<usize>
     ensures { IfSome result (IsMedia media.now) }
 {
+    if !is_bare(*media.last()?) {
+        return None;
+    }
     let slash = name_len(media);
     if slash == 0 || slash >= media.len() || media[slash] != b'/' {
         return None;
@@ -71,7 +78,7 @@ fn slash_of(media: &[u8]) -> Option<usize>
 /// Returns the header of a text, if it is written as it is and comes after `data:` in lower case.
 pub(crate) fn bare_of(text: &str, comma: usize) -> Option<Bare<'_>>
     requires { comma < length text.now }
-    ensures { IfSome result (λ bare. IsBare (take comma text.now) bare.media.now bare.slash bare.is_base64) }
+    ensures { IfSome result (IsBare (take comma text.now)) }
 {
     if comma > LONGEST {
         return None;
@@ -107,7 +114,7 @@ fn show_names(type_: &[u8], subtype: &[u8], out: &mut [u8]) -> DataUrlAnswer
 /// Writes the type and the subtype of a header to the start of an output, in parts or serialised.
 pub(crate) fn show_bare(bare: Bare<'_>, in_parts: bool, out: &mut [u8]) -> DataUrlAnswer
     requires { IsMedia bare.media.now bare.slash }
-    ensures { Shows 0 (form_of in_parts (record_at bare.entry.media.now bare.entry.slash)) out.old out.new result }
+    ensures { Shows 0 (form_of in_parts (bare_record bare.entry)) out.old out.new result }
 {
     if in_parts {
         return show_names(

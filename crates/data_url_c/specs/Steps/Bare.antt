@@ -1,9 +1,10 @@
 -- Headers that are a type and a subtype in lower case, with or without ";base64".
 use Rattle.std.specs.Int.{is_in_range}
 use Rattle.std.specs.List.{list_all}
-use Rattle.std.specs.Prelude.{Bool, List, [], codes, drop, false, length, slice_index, take, true, ℕ}
-use Rattle.std.specs.Prelude.{◌++◌, ◌+◌, ◌<◌, ◌==◌, ◌||◌, ◌≡◌, ◌≤◌}
+use Rattle.std.specs.Prelude.{[], ◌++◌, ◌+◌, ◌<◌, ◌==◌, ◌||◌, ◌≡◌, ◌≤◌, Bool, List, codes, drop}
+use Rattle.std.specs.Prelude.{false, length, slice_index, take, true, ℕ}
 use Rattle.data_url.specs.Mime.{Record}
+use Rattle.data_url_c.specs.declared.bare.Bare.{Bare}
 
 -- a lower-case letter, a digit, '+', '-' or '.'
 abbrev pub is_bare : ℕ → Bool
@@ -31,8 +32,12 @@ abbrev pub suffix_text : Bool → List ℕ
 suffix_text true = codes ";base64"
 suffix_text false = []
 
+-- the record of a header
+abbrev pub bare_record : Bare → Record
+bare_record bare = record_at bare.media.now bare.slash
+
 -- the text before the first comma is the scheme, a type, '/', a subtype, and the end of the header
-pub record IsBare (front media : List ℕ) (slash : ℕ) (flag : Bool) : Type 0 where
-  pub front_is : front ≡ codes "data:" ++ (media ++ suffix_text flag)
+pub record IsBare (front : List ℕ) (bare : Bare) : Type 0 where
+  pub front_is : front ≡ codes "data:" ++ (bare.media.now ++ suffix_text bare.is_base64)
   pub short : length front ≤ 267
-  pub is_media : IsMedia media slash
+  pub is_media : IsMedia bare.media.now bare.slash

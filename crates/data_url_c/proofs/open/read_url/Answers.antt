@@ -1,6 +1,6 @@
 use Rattle.std.proofs.Common.{arith, rules}
 use Rattle.data_url_c.specs.Steps.{form_of}
-use Rattle.data_url_c.proofs.BareLemmas.{bare_read}
+use Rattle.data_url_c.proofs.BareUrlLemmas.{bare_read}
 use Rattle.data_url_c.proofs.FormLemmas.{default_small}
 use Rattle.data_url_c.proofs.OpenLemmas.{at_comma, default_read, read_known, reads_url}
 use Rattle.data_url_c.proofs.open.read_url.Goals as goal
@@ -9,8 +9,8 @@ pub returns-then-starts_with : goal.returns-then-starts_with
 returns-then-starts_with c = grind (arith, default_read (form_of c.args.in_parts), default_small c.args.in_parts)
 
 pub returns-in-Some : goal.returns-in-Some
-returns-in-Some c = bare_read c.args.in_parts c.args.text.now c.in-Some.bare.media.now c.args.comma c.in-Some.bare.slash
-    c.in-Some.bare.is_base64 (search rules) c.requires c.in-Some.ensures c.show_bare.ensures
+returns-in-Some c = bare_read c.args.in_parts c.args.text.now c.args.comma c.in-Some.bare (search rules) c.requires
+    c.in-Some.ensures c.show_bare.ensures
 
 pub probe_of-requires-clause-comma : goal.probe_of-requires-clause-comma
 probe_of-requires-clause-comma c = (at_comma c.args.text.now c.args.comma c.requires).1
