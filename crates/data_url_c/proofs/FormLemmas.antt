@@ -1,10 +1,11 @@
 -- MIME types that are written in parts.
 use Rattle.std.proofs.Common.{◌≡◌, ℕ, ◌+◌, ◌-◌, ◌^◌, ◌≤◌, ◌<◌, List, [], ◌∷◌, ◌++◌, length, drop, get_or, map, min}
-use Rattle.std.proofs.Common.{take}
-use Rattle.std.proofs.Common.{refl, sym, ap, ◌∙◌, subst, arith, append_assoc, length-append, codes, Bool, true, false}
+use Rattle.std.proofs.Common.{take, refl, sym, ap, ◌∙◌, subst, arith, append_assoc, drop-drop, length-append, codes}
+use Rattle.std.proofs.Common.{Bool, true, false}
 use Rattle.std.proofs.lemmas.List.{append-nil, drop_all, drop_more, length-drop, length-take}
-use Rattle.std.proofs.lemmas.Slice.{drop-append-drop}
+use Rattle.std.proofs.lemmas.Slice.{drop-append-drop, drop-put_mid, take-put_mid}
 use Rattle.std.proofs.Math.Seq.{take-append_seam}
+use borrow.Rule.Slice.PartMut.{put_mid}
 use Rattle.std.specs.Global.{Global}
 use Rattle.std.specs.Int.{to_le_bytes, w64}
 use Rattle.std.specs.List.{flat_map}
@@ -49,7 +50,7 @@ split_first m = cc (
 )
 
 -- one parameter more
-pub split_more : (m : Mime) (read : List ℕ) (p : String Global × String Global) (rest : List (String Global × String
+split_more : (m : Mime) (read : List ℕ) (p : String Global × String Global) (rest : List (String Global × String
     Global))
     → IsSplit m read (p ∷ rest) → IsSplit m ((read ++ part_text p.0) ++ part_text p.1) rest
 split_more m read p rest h = cc (
@@ -59,6 +60,19 @@ split_more m read p rest h = cc (
   append_assoc read (part_text p.0) (part_text p.1),
   append_assoc read (part_text p.0 ++ part_text p.1) (pairs_parts rest),
 )
+
+-- a list from an index on is its element there and the rest
+drop_at : {A : Type 0} (items pairs : List A) (i : ℕ) (item : A) → items ≡ pairs → i < length items
+    → item ≡ get_or items i item → drop i pairs ≡ item ∷ drop (i + 1) pairs
+drop_at items pairs i item e l h = grind (arith, drop_more)
+
+-- one parameter more, of those from an index on
+split_next : (m : Mime) {items : List (String Global × String Global)} {i : ℕ} (read : List ℕ)
+    (item : String Global × String Global) → IsSplit m read (drop i m.parameters.items) → items ≡ m.parameters.items
+    → i < length items → item ≡ get_or items i item
+    → IsSplit m ((read ++ part_text item.0) ++ part_text item.1) (drop (i + 1) m.parameters.items)
+split_next m {items} {i} read item h s l t = split_more m read item (drop (i + 1) m.parameters.items)
+    (subst (IsSplit m read) (drop_at items m.parameters.items i item s l t) h)
 
 -- One part
 
@@ -80,17 +94,42 @@ writes_both {a} {b} {old} {mid} {new} {len} {k} {len'} v w = record {
       (omega (arith, size, first.0, second.0), second.1 ∙ cc (t, d, joined, append_assoc a b (drop len' old)));
 }
 
--- a part is written: its length, and then its bytes
-pub part_pushed : {text bytes size old mid new : List ℕ} {len k len' : ℕ} → size ≡ to_le_bytes w64 (length text)
-    → bytes ≡ text → Writes size old len mid k → Writes bytes mid k new len' → Writes (part text) old len new len'
+-- a part is put into an output: its length, and then its bytes
+pub part_put : (text size bytes old : List ℕ) (at : ℕ) → at + 8 + length text ≤ length old
+    → size ≡ to_le_bytes w64 (length text) → bytes ≡ text
+    → put_mid (at + 8) (at + 8 + length text - (at + 8)) (put_mid at (at + 8 - at) old size) bytes
+    ≡ take at old ++ (part text ++ drop (at + 8 + length text) old)
 unfolding part
-part_pushed {text} {bytes} {size} {old} {mid} {new} {len} {k} {len'} e f v w =
-    writes_both (subst (λ x. Writes x old len mid k) e v) (subst (λ x. Writes x mid k new len') f w)
+part_put text size bytes old at fits e f =
+    let p = put_mid at (at + 8 - at) old size in
+    let eight : length size ≡ 8 = ap length e in
+    let a = take-put_mid at (at + 8 - at) old size (at + 8) (omega (arith, eight)) (omega arith) in
+    let d = drop-put_mid at (at + 8 - at) old size (at + 8 + length text) (omega arith) (omega arith)
+    (omega (arith, eight)) in
+    ap (λ x. take (at + 8) p ++ (bytes ++ x)) (drop-drop (at + 8 + length text - (at + 8)) (at + 8) p
+    ∙ ap (λ n. drop n p) (omega arith) ∙ d)
+    ∙ cc (
+      a,
+      e,
+      f,
+      append_assoc (take at old) size (bytes ++ drop (at + 8 + length text) old),
+      append_assoc size text (drop (at + 8 + length text) old),
+    )
 
 -- a part has eight bytes more than its text
 pub part_length : (text : List ℕ) → length (part text) ≡ 8 + length text
 unfolding part
 part_length text = omega arith
+
+-- a part that was put into an output is written to it
+pub put_writes : (text : List ℕ) {old new : List ℕ} {len len' : ℕ} → len' ≡ len + 8 + length text
+    → new ≡ take len old ++ (part text ++ drop len' old) → Writes (part text) old len new len'
+put_writes text e f = record { fits = λ l. (omega (arith, e, part_length text), f) }
+
+-- what is read of a record is no longer than all its parts
+split_room : (m : Mime) (read : List ℕ) (rest : List (String Global × String Global)) → IsSplit m read rest
+    → length read ≤ length (parts_of (record_of m))
+split_room m read rest h = omega (arith, ap length h, length-append read (pairs_parts rest))
 
 -- What was counted
 
@@ -121,11 +160,6 @@ counted_first m a b k len d e f g = record {
   );
 }
 
--- a list from an index on is its element there and the rest
-drop_at : {A : Type 0} (items pairs : List A) (i : ℕ) (item : A) → items ≡ pairs → i < length items
-    → item ≡ get_or items i item → drop i pairs ≡ item ∷ drop (i + 1) pairs
-drop_at items pairs i item e l h = grind (arith, drop_more)
-
 -- one parameter more is counted
 pub counted_more : {m : Mime} {items : List (String Global × String Global)} {i : ℕ} {len : ℕ}
     (item : String Global × String Global) (a b : List ℕ) (k len' : ℕ) → Counted m (drop i m.parameters.items) len
@@ -134,8 +168,7 @@ pub counted_more : {m : Mime} {items : List (String Global × String Global)} {i
     → Counted m (drop (i + 1) m.parameters.items) len'
 counted_more {m} {items} {i} {len} item a b k len' h s l t d e f g = record {
   read = (h.read ++ part_text item.0) ++ part_text item.1;
-  split = split_more m h.read item (drop (i + 1) m.parameters.items)
-      (subst (IsSplit m h.read) (drop_at items m.parameters.items i item s l t) h.split);
+  split = split_next m h.read item h.split s l t;
   len_is = omega (
     arith,
     f,
@@ -201,10 +234,49 @@ pub written_more : {m : Mime} {items : List (String Global × String Global)} {i
     → Written m (drop (i + 1) m.parameters.items) out0 out' len'
 written_more {m} {items} {i} {out0} item a b h s l t d e v w = record {
   read = (h.read ++ part_text item.0) ++ part_text item.1;
-  split = split_more m h.read item (drop (i + 1) m.parameters.items)
-      (subst (IsSplit m h.read) (drop_at items m.parameters.items i item s l t) h.split);
+  split = split_next m h.read item h.split s l t;
   reaches = reaches_parts out0 h.read a b (string_bytes item.0) (string_bytes item.1) h.reaches d e v w;
 }
+
+-- an output with room for the record has room for the type and the subtype
+pub room_first : (m : Mime) {room : ℕ} → length (parts_of (record_of m)) ≤ room
+    → 16 + length (string_bytes m.type_) + length (string_bytes m.subtype) ≤ room
+room_first m fits =
+    let l = split_room m (part_text m.type_ ++ part_text m.subtype) m.parameters.items (split_first m) in
+    omega (
+      arith,
+      fits,
+      l,
+      length-append (part_text m.type_) (part_text m.subtype),
+      part_length (string_bytes m.type_),
+      part_length (string_bytes m.subtype),
+    )
+
+-- and, after the parts before it, for one parameter more
+pub room_more : {m : Mime} {items : List (String Global × String Global)} {i : ℕ} {out0 out : List ℕ} {len : ℕ}
+    (item : String Global × String Global) → Written m (drop i m.parameters.items) out0 out len
+    → items ≡ m.parameters.items → i < length items → item ≡ get_or items i item
+    → length (parts_of (record_of m)) ≤ length out0
+    → len + 16 + length (string_bytes item.0) + length (string_bytes item.1) ≤ length out
+room_more {m} {items} {i} {out0} {out} {len} item h s l t fits =
+    let more = split_room m ((h.read ++ part_text item.0) ++ part_text item.1) (drop (i + 1) m.parameters.items)
+    (split_next m h.read item h.split s l t) in
+    let size = length-append (h.read ++ part_text item.0) (part_text item.1) in
+    let size' = length-append h.read (part_text item.0) in
+    let so_far = h.reaches (omega (arith, fits, more, size, size')) in
+    omega (
+      arith,
+      fits,
+      more,
+      size,
+      size',
+      part_length (string_bytes item.0),
+      part_length (string_bytes item.1),
+      so_far.0,
+      ap length so_far.1,
+      length-append h.read (drop (length h.read) out0),
+      length-drop (length h.read) out0,
+    )
 
 -- all parts are written
 pub written_all : {m : Mime} {items : List (String Global × String Global)} {i : ℕ} {out0 out : List ℕ} {len : ℕ}

@@ -9,7 +9,7 @@ ghost use Rattle.data_url_c.specs.Steps.Bare.{IsBare, IsMedia, bare_record, is_b
 
 use crate::answer::{DONE, DataUrlAnswer, OUTPUT_TOO_SMALL, show};
 use crate::flag::{SCHEME, SUFFIX};
-use crate::form::{LENGTH, push_part};
+use crate::form::{LENGTH, put_part};
 
 /// The most bytes before the comma of such a header. A type and a subtype have at most 127 bytes each
 /// ([RFC 6838, section 4.2](https://www.rfc-editor.org/rfc/rfc6838#section-4.2)).
@@ -105,9 +105,8 @@ fn show_names(type_: &[u8], subtype: &[u8], out: &mut [u8]) -> DataUrlAnswer
             len,
         };
     }
-    let mut end = 0;
-    push_part(out, &mut end, type_);
-    push_part(out, &mut end, subtype);
+    let end = put_part(out, 0, type_);
+    put_part(out, end, subtype);
     DataUrlAnswer { status: DONE, len }
 }
 

@@ -1,16 +1,15 @@
 //! MIME types, written to an output: serialised, or in parts.
 
-ghost use Rattle.std.specs.Prelude.{◌≡◌, ◌+◌, ◌-◌, ◌^◌, ◌≤◌, length, min};
+ghost use Rattle.std.specs.Prelude.{◌≡◌, ◌+◌, ◌++◌, ◌-◌, ◌^◌, ◌≤◌, drop, length, min, take};
 ghost use Rattle.data_url.specs.Mime.{default_record};
 ghost use Rattle.data_url.specs.MimeType.{record_of};
 ghost use Rattle.data_url_c.specs.Answers.{Answers, Shows};
 ghost use Rattle.data_url_c.specs.Forms.{part, parts_of, serialised};
 ghost use Rattle.data_url_c.specs.Gives.{GivesTypeInParts};
 ghost use Rattle.data_url_c.specs.Parts.{WritesFront};
-ghost use Rattle.data_url_c.specs.Steps.{Writes, WritesForm, form_of};
+ghost use Rattle.data_url_c.specs.Steps.{WritesForm, form_of};
 
 use crate::answer::{DONE, DataUrlAnswer, OUTPUT_TOO_SMALL, answer, show};
-use crate::output::push;
 use crate::refusal::Refusal;
 use crate::texts::printed_of;
 use data_url::mime::{Mime, MimeFromStrError};
@@ -47,13 +46,18 @@ fn parts_len(mime: &Mime) -> usize
     len
 }
 
-/// Writes a text as a part to an output, after the bytes that are written, if it fits.
+/// Writes a text as a part to an output that has room for it, at a place. Returns the place after it.
 #[inline(always)]
-pub(crate) fn push_part(out: &mut [u8], len: &mut usize, text: &[u8])
-    ensures { Writes (part text.now) out.old len.old out.new len.new }
+pub(crate) fn put_part(out: &mut [u8], at: usize, text: &[u8]) -> usize
+    requires { at + 8 + length text.now ≤ length out.old }
+    ensures place { result ≡ at + 8 + length text.now }
+    ensures written { out.new ≡ take at out.old ++ (part text.now ++ drop result out.old) }
 {
-    push(out, len, &text.len().to_le_bytes());
-    push(out, len, text);
+    let start = at + LENGTH;
+    let end = start + text.len();
+    out[at..start].copy_from_slice(&text.len().to_le_bytes());
+    out[start..end].copy_from_slice(text);
+    end
 }
 
 /// Writes a record in parts to the start of an output that has room for it. Returns its length.
@@ -61,12 +65,11 @@ fn write_parts(mime: &Mime, out: &mut [u8]) -> usize
     requires { length (parts_of (record_of mime.now)) ≤ length out.old }
     ensures { WritesFront (parts_of (record_of mime.now)) out.old out.new result }
 {
-    let mut len = 0;
-    push_part(out, &mut len, mime.type_.as_bytes());
-    push_part(out, &mut len, mime.subtype.as_bytes());
+    let mut len = put_part(out, 0, mime.type_.as_bytes());
+    len = put_part(out, len, mime.subtype.as_bytes());
     for (name, value) in &mime.parameters {
-        push_part(out, &mut len, name.as_bytes());
-        push_part(out, &mut len, value.as_bytes());
+        len = put_part(out, len, name.as_bytes());
+        len = put_part(out, len, value.as_bytes());
     }
     len
 }
