@@ -314,11 +314,35 @@ fn lines_of_base64() {
     }
 }
 
-/// The lines are longer than the 4 KiB whose bytes decide how much room is allocated.
+/// The lines are longer than the 4 KiB whose bytes decide how much room is allocated, and than what the decoder is fed at once.
 #[test]
 fn long_lines_of_base64() {
     let text = lines(76, 60);
-    (4_096..4_240).for_each(|place| assert_lines_with_parts(&text, place));
+    (4_080..4_240).for_each(|place| assert_lines_with_parts(&text, place));
+}
+
+/// The decoder is fed 4 KiB at once: text ends before, there and after, and two bytes before each end may be another part.
+#[test]
+fn clean_text_of_4_kib() {
+    for len in 4_090..4_102 {
+        let text = "QUJD".repeat(1_026)[..len].to_owned();
+        assert_base64_url(&text);
+        assert_lines_with_parts(&text, len - 2);
+    }
+}
+
+/// A type and a subtype in lower case with a long name, around the length from which they are read as any other header.
+#[test]
+fn long_types() {
+    for len in 245..265 {
+        let subtype = "b".repeat(len);
+        for (suffix, body) in &[("", "QQ"), (";base64", "A")] {
+            let url = format!("data:a/{}{},QQ", subtype, suffix);
+            let url = DataUrl::process(&url).unwrap();
+            assert!(url.mime_type().matches("a", &subtype) && url.mime_type().parameters.is_empty());
+            assert_eq!(url.decode_to_vec().unwrap().0, body.as_bytes());
+        }
+    }
 }
 
 /// How many symbols a decoder reads in one step, with or without white space in one place.

@@ -13,7 +13,7 @@ use std::alloc::{AllocError, Global};
 const FIRST_ROOM: usize = 64 * 1024;
 
 /// How many bytes of a tail the decoder is fed at once, at most.
-const FED_AT_ONCE: usize = 4096;
+const FED_AT_ONCE: usize = 4 * 1024;
 
 /// How many bytes of a long text are looked at before room is allocated for it.
 const PROBED: usize = 4 * 1024;
@@ -39,8 +39,8 @@ where
     Ok(pieces.end())
 }
 
-/// Decodes a tail up to its first `#` or `%`, part by part, so that a fault is found before much of the text after it is read.
-/// Returns the place of that byte, or the length of the tail.
+/// Decodes a tail up to its first `#` or `%`, part by part, since `feed_unescaped` allows for no longer ones: so the decoder cannot
+/// read far past a fault. Returns the place of that byte, or the length of the tail.
 fn feed_front<F, E>(decoder: &mut Decoder<F, E>, tail: &[u8]) -> Result<usize, DecodeError<E>>
 where
     F: FnMut(&[u8]) -> Result<(), E>,

@@ -13,7 +13,7 @@ use Rattle.data_url.proofs.api.{ascii_all}
 use Rattle.data_url_c.specs.Answers.{Shows}
 use Rattle.data_url_c.specs.Forms.{part, parts_of, serialised}
 use Rattle.data_url_c.specs.Steps.{Writes}
-use Rattle.data_url_c.specs.Steps.Bare.{IsMedia, IsName, is_bare, record_at}
+use Rattle.data_url_c.specs.Steps.Bare.{IsMedia, IsTypeWord, is_bare, record_at}
 use Rattle.data_url_c.proofs.FormLemmas.{part_length, writes_both}
 use Rattle.data_url_c.proofs.PrintLemmas.{ascii_encoded}
 
@@ -46,7 +46,7 @@ is_media media subtype slash n e some within at f more g h =
         some = omega (arith, length-take slash media);
         all = ap (λ k. list_all is_bare (take k media)) e ∙ all_front is_bare media;
       };
-      subtype = subst IsName whole (record { some = more; all = all });
+      subtype = subst IsTypeWord whole (record { some = more; all = all });
     }
 
 -- Writing
@@ -112,7 +112,7 @@ encodes : (s : List ℕ) → list_all is_plain s ≡ true → s ≡ encode_utf8_
 encodes s h = ascii_encoded s (ascii_all s (all_more is_plain (λ b. nat_lt b 128) ascii_byte s h))
 
 -- so is a name
-encodes_name : (s : List ℕ) → IsName s → s ≡ encode_utf8_all s
+encodes_name : (s : List ℕ) → IsTypeWord s → s ≡ encode_utf8_all s
 encodes_name s h = encodes s (all_more is_bare is_plain plain_byte s h.all)
 
 -- The forms of the record

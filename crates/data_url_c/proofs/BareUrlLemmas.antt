@@ -22,7 +22,7 @@ use Rattle.data_url.proofs.api.{IsBytes, bytes_trimmed, spelled_scheme, after_ni
 use Rattle.data_url.proofs.api.{dropped_keeps, dropped_nil, header_text, suffix_stop}
 use Rattle.data_url_c.specs.Answers.{Shows}
 use Rattle.data_url_c.specs.Steps.{form_of}
-use Rattle.data_url_c.specs.Steps.Bare.{IsBare, IsMedia, IsName, bare_record, is_bare, record_at, suffix_text}
+use Rattle.data_url_c.specs.Steps.Bare.{IsBare, IsMedia, IsTypeWord, bare_record, is_bare, record_at, suffix_text}
 use Rattle.data_url_c.specs.declared.bare.Bare.{Bare}
 use Rattle.data_url_c.specs.Steps.Opening.{IsReadUrl, tail_after}
 use Rattle.data_url_c.specs.declared.answer.DataUrlAnswer.{DataUrlAnswer}
@@ -63,7 +63,7 @@ lower_name (b ∷ s) h =
     let k = and_parts (is_bare b) (list_all is_bare s) h in cc (lower_byte b k.0, lower_name s k.1)
 
 -- it is a token text
-token_name : (s : List ℕ) → IsName s → is_token_text s ≡ true
+token_name : (s : List ℕ) → IsTypeWord s → is_token_text s ≡ true
 token_name [] h = absurd (omega (arith, h.some))
 token_name (b ∷ s) h = all_more is_bare is_token token_byte (b ∷ s) h.all
 

@@ -11,8 +11,9 @@ use crate::answer::{DONE, DataUrlAnswer, OUTPUT_TOO_SMALL, show};
 use crate::flag::{SCHEME, SUFFIX};
 use crate::form::{LENGTH, put_part};
 
-/// The most bytes before the comma of such a header. A type and a subtype have at most 127 bytes each
-/// ([RFC 6838, section 4.2](https://www.rfc-editor.org/rfc/rfc6838#section-4.2)).
+/// The most bytes before the comma: `data:`, a type and a subtype of at most 127 bytes each
+/// ([RFC 6838, section 4.2](https://www.rfc-editor.org/rfc/rfc6838#section-4.2)), the slash, and `;base64`. A longer header is read
+/// as any other.
 const LONGEST: usize = 267;
 
 /// A header that is written as it is.
@@ -48,9 +49,9 @@ fn without_suffix(header: &[u8]) -> (&[u8], bool)
     }
 }
 
-/// Returns how many bytes at the start are of a name.
+/// Returns how many bytes at the start are of a type or subtype.
 #[inline(always)]
-fn name_len(bytes: &[u8]) -> usize
+fn word_len(bytes: &[u8]) -> usize
     ensures { result ≡ prefix_len is_bare bytes.now }
 {
     bytes.iter().take_while(|byte| is_bare(**byte)).count()
@@ -61,15 +62,16 @@ fn name_len(bytes: &[u8]) -> usize
 fn slash_of(media: &[u8]) -> Option<usize>
     ensures { IfSome result (IsMedia media.now) }
 {
+    // Most other headers end with a byte that is in no type. This sees it at once.
     if !is_bare(*media.last()?) {
         return None;
     }
-    let slash = name_len(media);
+    let slash = word_len(media);
     if slash == 0 || slash >= media.len() || media[slash] != b'/' {
         return None;
     }
     let subtype = &media[slash + 1..];
-    if subtype.is_empty() || name_len(subtype) != subtype.len() {
+    if subtype.is_empty() || word_len(subtype) != subtype.len() {
         return None;
     }
     Some(slash)
@@ -94,7 +96,7 @@ pub(crate) fn bare_of(text: &str, comma: usize) -> Option<Bare<'_>>
 }
 
 /// Writes a type and a subtype as parts to the start of an output.
-fn show_names(type_: &[u8], subtype: &[u8], out: &mut [u8]) -> DataUrlAnswer
+fn show_media(type_: &[u8], subtype: &[u8], out: &mut [u8]) -> DataUrlAnswer
     requires { length type_.now + length subtype.now < 2 ^ 63 }
     ensures { Shows 0 (part type_.now ++ part subtype.now) out.old out.new result }
 {
@@ -116,7 +118,7 @@ pub(crate) fn show_bare(bare: Bare<'_>, in_parts: bool, out: &mut [u8]) -> DataU
     ensures { Shows 0 (form_of in_parts (bare_record bare.entry)) out.old out.new result }
 {
     if in_parts {
-        return show_names(
+        return show_media(
             &bare.media[..bare.slash],
             &bare.media[bare.slash + 1..],
             out,

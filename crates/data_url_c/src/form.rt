@@ -46,7 +46,7 @@ fn parts_len(mime: &Mime) -> usize
     len
 }
 
-/// Writes a text as a part to an output that has room for it, at a place. Returns the place after it.
+/// Writes bytes as a part to an output that has room for it, at a place. Returns the place after it.
 #[inline(always)]
 pub(crate) fn put_part(out: &mut [u8], at: usize, text: &[u8]) -> usize
     requires { at + 8 + length text.now ≤ length out.old }

@@ -1,4 +1,4 @@
--- What the vector code computes from one byte, and from a row of values.
+-- What the vector code computes from one byte, and from a row or a block of them.
 use Rattle.std.specs.Prelude.{[], if◌then◌else◌, ◌%◌, ◌*◌, ◌+◌, ◌/◌, ◌==◌, ◌∷◌, ◌≡◌, ◌≤◌, IsTrue, List}
 use Rattle.std.specs.{List.{list_all}, Prelude.{◌++◌, drop, map, slice_index, take, ℕ}}
 use Rattle.data_url.specs.Base64.{group_number, groups, is_symbol, symbol_value}

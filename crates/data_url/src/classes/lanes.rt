@@ -69,7 +69,7 @@ const FOUR_TIMES: [usize; 64] = [
     10, 11, 12, 13, 14, 15,
 ];
 
-/// Returns a block that has a row four times. What only its first row is used for, is computed for that row alone.
+/// Returns a block that has a row four times. If only the first row of a result is used, the compiler computes that row alone.
 #[inline(always)]
 pub(crate) fn repeated(row: u8x16) -> u8x64
     ensures { result ≡ row ++ row ++ row ++ row }

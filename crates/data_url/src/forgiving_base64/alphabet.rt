@@ -129,8 +129,8 @@ fn numbers_of(values: u8x64) -> u32x16
     (upper << u32x16::splat(12)) + lower
 }
 
-/// The places of the bytes of four groups in those of their numbers, and then places without meaning. So for each row.
-const BYTES: [usize; 64] = [
+/// For each row: the places of the bytes of its four groups among those of their numbers, and then four places without meaning.
+const GROUP_BYTES: [usize; 64] = [
     2, 1, 0, 6, 5, 4, 10, 9, 8, 14, 13, 12, 15, 15, 15, 15, 18, 17, 16, 22, 21, 20, 26, 25, 24, 30,
     29, 28, 31, 31, 31, 31, 34, 33, 32, 38, 37, 36, 42, 41, 40, 46, 45, 44, 47, 47, 47, 47, 50, 49,
     48, 54, 53, 52, 58, 57, 56, 62, 61, 60, 63, 63, 63, 63,
@@ -143,7 +143,7 @@ fn bytes_of(numbers: u32x16) -> u8x64
     ensures len { length result ≡ 64 }
     ensures bytes { twelves result ≡ number_bytes numbers }
 {
-    numbers.to_le_bytes().swizzle(BYTES)
+    numbers.to_le_bytes().swizzle(GROUP_BYTES)
 }
 
 /// The bytes of the groups of symbols that a row begins with, and then bytes without meaning.

@@ -94,7 +94,7 @@ impl HeldGroups {
     }
 
     /// Adds the groups of rows of sixteen symbols, each with a gap at most, until 64 groups are held. Returns how many bytes they take.
-    #[inline(always)]
+    #[inline(never)]
     fn fill_rows(&mut self, text: &[u8]) -> usize
         requires room { self.old.len < 192 }
         ensures within { result ≤ length text.now }

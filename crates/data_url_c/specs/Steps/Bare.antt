@@ -10,8 +10,8 @@ use Rattle.data_url_c.specs.declared.bare.Bare.{Bare}
 abbrev pub is_bare : ℕ → Bool
 is_bare b = is_in_range 97 122 b || (is_in_range 48 57 b || ((b == 43) || ((b == 45) || (b == 46))))
 
--- at least one byte, and each is one of these
-pub record IsName (s : List ℕ) : Type 0 where
+-- a type or a subtype: at least one byte, and each is a lower-case letter, a digit, '+', '-' or '.'
+pub record IsTypeWord (s : List ℕ) : Type 0 where
   pub some : 0 < length s
   pub all : list_all is_bare s ≡ true
 
@@ -19,8 +19,8 @@ pub record IsName (s : List ℕ) : Type 0 where
 pub record IsMedia (media : List ℕ) (slash : ℕ) : Type 0 where
   pub within : slash < length media
   pub slash_is : slice_index media slash ≡ 47
-  pub type_ : IsName (take slash media)
-  pub subtype : IsName (drop (slash + 1) media)
+  pub type_ : IsTypeWord (take slash media)
+  pub subtype : IsTypeWord (drop (slash + 1) media)
 
 -- the record of this type and subtype, without parameters
 abbrev pub record_at : List ℕ → ℕ → Record

@@ -1,7 +1,7 @@
 use Rattle.std.proofs.Common.{arith}
 use Rattle.data_url_c.proofs.BareLemmas.{pair_too_long, shows_pair}
 use Rattle.data_url_c.proofs.FormLemmas.{put_writes}
-use Rattle.data_url_c.proofs.bare.show_names.Goals as goal
+use Rattle.data_url_c.proofs.bare.show_media.Goals as goal
 
 pub returns-then-len-out : goal.returns-then-len-out
 returns-then-len-out c = pair_too_long c.args.type_.now c.args.subtype.now (omega arith)
