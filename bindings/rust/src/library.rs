@@ -154,23 +154,25 @@ fn written<A, T>(
 ) -> Result<T, u32> {
     check_processor();
     let mut room = Room::<WRITTEN>::new();
-    let given = call(room.as_mut_ptr(), WRITTEN);
-    let (status, len) = answer(&given);
-    match status {
-        DONE => Ok(read(&given, room.written(len))),
-        OUTPUT_TOO_SMALL => {
-            let mut bytes: Vec<u8> = Vec::with_capacity(len);
-            let given = call(bytes.as_mut_ptr(), len);
+    let mut more = Vec::new();
+    let mut given = call(room.as_mut_ptr(), WRITTEN);
+    let bytes = match answer(&given) {
+        (DONE, len) => room.written(len),
+        (OUTPUT_TOO_SMALL, len) => {
+            more.reserve_exact(len);
+            given = call(more.as_mut_ptr(), len);
             match answer(&given) {
                 (DONE, len) => {
-                    unsafe { bytes.set_len(len) };
-                    Ok(read(&given, &bytes))
+                    assert!(len <= more.capacity());
+                    unsafe { more.set_len(len) };
                 }
-                (status, _) => Err(refusal(status)),
+                (status, _) => return Err(refusal(status)),
             }
+            &more
         }
-        status => Err(refusal(status)),
-    }
+        (status, _) => return Err(refusal(status)),
+    };
+    Ok(read(&given, bytes))
 }
 
 /// A text that the library wrote, which is UTF-8.
