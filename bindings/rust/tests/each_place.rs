@@ -339,7 +339,9 @@ fn long_types() {
         for (suffix, body) in &[("", "QQ"), (";base64", "A")] {
             let url = format!("data:a/{}{},QQ", subtype, suffix);
             let url = DataUrl::process(&url).unwrap();
-            assert!(url.mime_type().matches("a", &subtype) && url.mime_type().parameters.is_empty());
+            assert!(
+                url.mime_type().matches("a", &subtype) && url.mime_type().parameters.is_empty()
+            );
             assert_eq!(url.decode_to_vec().unwrap().0, body.as_bytes());
         }
     }
