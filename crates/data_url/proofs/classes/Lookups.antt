@@ -1,10 +1,11 @@
 -- A row that a block has four times, swizzles that look up bytes in such a block, and the first row of a block. For
 -- `classes/lanes.rt`, `alphabet.rt` and `escapes/lanes.rt`.
-use Rattle.std.proofs.Common.{List, [], ◌∷◌, ◌++◌, map, ◌≡◌, ℕ, ◌<◌, ◌≤◌, true, eqb, get_or, Fits, w8, ap, length}
+use Rattle.std.proofs.Common.{Bool, List, [], ◌∷◌, ◌++◌, map, ◌≡◌, ℕ, ◌<◌, ◌≤◌, true, eqb, get_or, Fits, w8, ap, length}
 use Rattle.std.proofs.Common.{◌+◌, ◌*◌, ◌/◌, ◌%◌, refl, sym, ◌∙◌, arith, suc, take, drop, eqb-true, get_or-take}
-use Rattle.std.proofs.lemmas.{Bool.{agree_below_at}, List.{get_or-map, length-map, length-take-le, take-map}}
+use Rattle.std.proofs.lemmas.{Bool.{agree_below_at}, List.Folds.{list_all-append}}
+use Rattle.std.proofs.lemmas.List.{get_or-map, length-map, length-take-le, take-map}
 use Rattle.std.proofs.lemmas.Simd.{SwzOk, SwzOk-from_below, pick_l-range_with_len, pick_l_left, pick_l_whole, swz_l}
-use Rattle.std.specs.List.{range_with_len}
+use Rattle.std.specs.List.{list_all, range_with_len}
 use Rattle.data_url.proofs.forgiving_base64.Vectors.{each_map}
 use Rattle.data_url.specs.declared.classes.lanes.TheConstants.{FOUR_TIMES}
 use lib.{Dec.{T}, Lanes.{Each1, all_below, pick_l}}
@@ -31,6 +32,10 @@ four_long row long = ap length (sym (ap four_rows (pick_l_whole 0 row 16 long)))
 -- the first of them
 pub first_row : (row : List ℕ) → length row ≡ 16 → take 16 (four_rows row) ≡ row
 first_row row long = let whole = pick_l_whole 0 row 16 long in sym (ap (λ x. take 16 (four_rows x)) whole) ∙ whole
+
+-- all bytes of a row pass a test exactly where all of a block do that has the row four times
+pub all_in_rows : (p : ℕ → Bool) (row : List ℕ) → {w : List ℕ} → w ≡ four_rows row → list_all p w ≡ list_all p row
+all_in_rows p row e = ap (list_all p) e ∙ grind (arith, list_all-append p)
 
 -- if indices below 16 are computed from the bytes of a block, the swizzle's precondition is satisfied
 pub places_ok : (g : ℕ → ℕ) (v js : List ℕ) → length v ≡ 64 → js ≡ map g v → ((x : ℕ) → x < 256 → g x < 16)

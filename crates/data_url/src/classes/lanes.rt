@@ -109,18 +109,9 @@ pub(crate) fn marks(others: &[u8], row: u8x16) -> u64
         .to_bitmask()
 }
 
-/// Whether no byte of a row is marked. As a test for a branch, this takes fewer instructions than the bits of `marks`.
+/// Whether no byte of a block is marked. As a test for a branch, this takes fewer instructions than the bits of `marks`.
 #[inline(always)]
-pub(crate) fn is_unmarked(others: &[u8], row: u8x16) -> bool
-    requires { 16 ≤ length others.now }
-    ensures { result ≡ list_all (λ b. not (is_marked others.now b)) row }
-{
-    looked_up_in_row(others, row).reduce_or() == 0
-}
-
-/// Whether no byte of a block is marked.
-#[inline(always)]
-pub(crate) fn is_block_unmarked(others: &[u8], block: u8x64) -> bool
+pub(crate) fn is_unmarked(others: &[u8], block: u8x64) -> bool
     requires { 16 ≤ length others.now }
     ensures { result ≡ list_all (λ b. not (is_marked others.now b)) block }
 {
@@ -138,7 +129,7 @@ pub(crate) fn rows_len(others: [u8; 16], bytes: &[u8]) -> usize
     let mut at = 0;
     while at < end {
         let row = row(bytes, at);
-        if !is_unmarked(&others, row) {
+        if !is_unmarked(&others, repeated(row)) {
             return at + marks(&others, row).trailing_zeros() as usize;
         }
         at += ROW;

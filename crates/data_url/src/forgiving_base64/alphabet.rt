@@ -7,7 +7,7 @@ ghost use Rattle.std.specs.Simd.Lanes.{mask_l};
 ghost use Rattle.data_url.specs.Base64.{group_bytes, group_number, groups, is_symbol, symbol_value};
 ghost use Rattle.data_url.specs.Steps.{Groups.{is_symbol_or_space}, Lanes.{DecodesFront, number_bytes, numbers, twelves, value_of}};
 
-use crate::classes::lanes::{is_block_unmarked, is_unmarked, marks, repeated, row};
+use crate::classes::lanes::{is_unmarked, marks, repeated, row};
 use std::simd::prelude::*;
 
 /// The value of each symbol, by its byte, and 64 for other bytes.
@@ -85,20 +85,12 @@ pub(crate) fn symbols_ahead(bytes: u8x16) -> usize
     (others(bytes) as u16).trailing_zeros() as usize
 }
 
-/// Whether all bytes of a row are symbols.
+/// Whether all bytes of a block are symbols.
 #[inline(always)]
-pub(crate) fn is_of_symbols(bytes: u8x16) -> bool
+pub(crate) fn is_of_symbols(bytes: u8x64) -> bool
     ensures { result ≡ list_all is_symbol bytes }
 {
     is_unmarked(&SYMBOLS, bytes)
-}
-
-/// Whether all bytes of a block are symbols.
-#[inline(always)]
-pub(crate) fn is_block_of_symbols(bytes: u8x64) -> bool
-    ensures { result ≡ list_all is_symbol bytes }
-{
-    is_block_unmarked(&SYMBOLS, bytes)
 }
 
 /// Whether all bytes of a row are symbols or white space.

@@ -2,7 +2,7 @@
 
 ghost use Rattle.std.specs.Prelude.{◌≡◌, ◌%◌, ◌≤◌, [], Err, MatchResult, length, take, true, false};
 
-use super::alphabet::{decode_block, group_of, is_block_of_symbols};
+use super::alphabet::{decode_block, group_of, is_of_symbols};
 use super::held::{FULL, HeldGroups};
 use super::left_over::State;
 use super::{DecodeError, InvalidBase64, InvalidBase64Details};
@@ -128,7 +128,7 @@ where
         let mut at = 0;
         while text.len() - at >= BLOCK {
             let block = u8x64::from_slice(&text[at..]);
-            if !is_block_of_symbols(block) {
+            if !is_of_symbols(block) {
                 return Ok(at);
             }
             let mut bytes = [0; BLOCK];

@@ -7,7 +7,7 @@ ghost use Rattle.data_url.specs.Base64.{groups, is_symbol, symbol_value};
 ghost use Rattle.data_url.specs.Steps.Groups.{IsOverGap, is_symbol_or_space};
 
 use super::alphabet::{decode_row, is_of_symbols, is_spaced, is_symbol, others, symbols_ahead};
-use crate::classes::lanes::{put, row, spliced};
+use crate::classes::lanes::{put, repeated, row, spliced};
 use crate::packing::pack_row;
 use std::simd::prelude::*;
 
@@ -42,7 +42,7 @@ pub(crate) fn row_over_gap(text: &[u8]) -> Option<(u8x16, usize)>
         return None;
     }
     let symbols = spliced(first, row(text, spaces), before);
-    if !is_of_symbols(symbols) {
+    if !is_of_symbols(repeated(symbols)) {
         return None;
     }
     Some((symbols, spaces))

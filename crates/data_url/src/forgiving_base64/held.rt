@@ -4,7 +4,7 @@ ghost use Rattle.std.specs.Prelude.{◌≡◌, ◌%◌, ◌+◌, ◌≤◌, ◌<
 
 use super::alphabet::{decode_row, group_of, is_of_symbols, is_symbol, symbols_ahead};
 use super::gaps::{before_partial, decode_unit, pack_rows, row_over_gap, spaces_ahead};
-use crate::classes::lanes::{last_row, put, row};
+use crate::classes::lanes::{last_row, put, repeated, row};
 
 /// How many bytes of groups are held before the closure is called. With 16 groups, lines of 76 symbols take a fifth longer.
 pub(crate) const FULL: usize = 192;
@@ -107,7 +107,7 @@ impl HeldGroups {
         let mut at = 0;
         while at < end {
             let row = row(text, at);
-            if is_of_symbols(row) {
+            if is_of_symbols(repeated(row)) {
                 put(&mut self.bytes, len, decode_row(row));
                 len += 12;
                 at += 16;

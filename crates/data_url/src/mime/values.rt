@@ -5,7 +5,7 @@ ghost use Rattle.std.specs.Prelude.{◌≡◌, ◌<◌, ◌≤◌, ◌+◌, ◌-
 ghost use Rattle.std.specs.{Char.{to_ascii_lowercase}, Option.{option_map}, Str.{chars}};
 ghost use Rattle.data_url.specs.{Mime.{is_token_text}, Steps.Parsing.{unescaped, value_of}, MimeType.{code_points}};
 
-use crate::classes::lanes::{ROW, is_unmarked, marks, put, row};
+use crate::classes::lanes::{ROW, is_unmarked, marks, put, repeated, row};
 use crate::classes::{Class, ESCAPED, has, long_span};
 use std::alloc::{AllocError, Global};
 
@@ -93,7 +93,7 @@ fn copy_rows(text: &[u8], value: &mut [u8], len: usize) -> usize
     while text.len() - copied >= ROW {
         let row = row(text, copied);
         put(value, len + copied, row);
-        if !is_unmarked(&ESCAPED, row) {
+        if !is_unmarked(&ESCAPED, repeated(row)) {
             return copied + marks(&ESCAPED, row).trailing_zeros() as usize;
         }
         copied += ROW;

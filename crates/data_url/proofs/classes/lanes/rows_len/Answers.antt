@@ -1,18 +1,19 @@
-use Rattle.std.proofs.Common.{arith, ap}
-use Rattle.data_url.proofs.classes.Rows.{one_row_more, row_front}
+use Rattle.std.proofs.Common.{arith, ap, ◌∙◌, not}
+use Rattle.data_url.specs.Steps.Classes.{is_marked}
+use Rattle.data_url.proofs.classes.{Lookups.{all_in_rows}, Rows.{one_row_more, row_front}}
 use lib.Count.{count_trailing_zeros}
 use Rattle.data_url.proofs.classes.lanes.rows_len.Goals as goal
 
 pub returns-then-not-is_unmarked : goal.returns-then-not-is_unmarked
 returns-then-not-is_unmarked c =
-    let h = row_front c.args.others c.args.bytes.now c.loop-at.at c.loop-at.invariant (omega (
-      arith,
-      c.loop-at-test.true,
-    ))
-    c.row-row.ensures c.is_unmarked.ensures _ c.if-not-is_unmarked.true (ap (count_trailing_zeros 64) c.marks.ensures)
-    in
+    let all = all_in_rows (λ b. not (is_marked c.args.others b)) c.row-row.result c.repeated.ensures in
+    let h = row_front c.args.others c.args.bytes.now c.loop-at.at c.loop-at.invariant
+    (omega (arith, c.loop-at-test.true)) c.row-row.ensures (c.is_unmarked.ensures ∙ all) _
+    c.if-not-is_unmarked.true (ap (count_trailing_zeros 64) c.marks.ensures) in
     record { within = h.1.within; prefix = h.1.front }
 
 pub loop-at-preserved : goal.loop-at-preserved
-loop-at-preserved c = one_row_more c.args.others c.args.bytes.now c.loop-at.at c.loop-at.invariant
-    (omega (arith, c.loop-at-test.true)) c.row-row.ensures c.is_unmarked.ensures c.if-not-is_unmarked.false
+loop-at-preserved c =
+    let all = all_in_rows (λ b. not (is_marked c.args.others b)) c.row-row.result c.repeated.ensures in
+    one_row_more c.args.others c.args.bytes.now c.loop-at.at c.loop-at.invariant
+    (omega (arith, c.loop-at-test.true)) c.row-row.ensures (c.is_unmarked.ensures ∙ all) c.if-not-is_unmarked.false

@@ -1,6 +1,7 @@
 use Rattle.std.proofs.Common.{◌∙◌, ◌+◌, ◌-◌, ◌≡◌, ◌++◌, ap, ap₂, arith, drop, drop-drop, sym, take, take-take}
 use Rattle.std.{proofs.lemmas.List.{drop-take, take_rest}, specs.Char.{is_ascii_whitespace}, specs.List.{prefix_len}}
-use Rattle.data_url.proofs.forgiving_base64.Groups.{over_gap, prefix_passes}
+use Rattle.data_url.specs.Base64.{is_symbol}
+use Rattle.data_url.proofs.{classes.Lookups.{all_in_rows}, forgiving_base64.Groups.{over_gap, prefix_passes}}
 use Rattle.data_url.proofs.forgiving_base64.gaps.row_over_gap.Goals as goal
 
 pub returns : goal.returns
@@ -18,6 +19,7 @@ returns c =
     let is = c.spliced-symbols.ensures ∙ ap₂ (λ x y. x ++ y) front back in
     let spaces : k ≡ prefix_len is_ascii_whitespace (drop p text) =
     c.spaces_ahead-spaces.ensures.spaces ∙ ap (prefix_len is_ascii_whitespace) (take_rest text p) in
-    let all = sym c.is_of_symbols.ensures ∙ c.if-not-is_of_symbols.false in
+    let all = sym (c.is_of_symbols.ensures ∙ all_in_rows is_symbol c.spliced-symbols.result c.repeated.ensures)
+    ∙ c.if-not-is_of_symbols.false in
     over_gap text c.spliced-symbols.result p k few (omega arith) is all
     (rw spaces (prefix_passes is_ascii_whitespace (drop p text)))

@@ -22,7 +22,7 @@ returns-in_err-write-clause-read g c =
     let p = err_from_is_err_and c.from_residual.result c.from_residual.ensures.1 in
     let i = c.loop-at.invariant in
     let reads = block_reads step c.args.text.now c.loop-at.at i.between (omega arith)
-    (sym c.if-not-is_block_of_symbols.false ∙ c.is_block_of_symbols.ensures) c.decode_block.ensures.bytes i.reads in
+    (sym c.if-not-is_of_symbols.false ∙ c.is_of_symbols.ensures) c.decode_block.ensures.bytes i.reads in
     let bytes = take 48 c.decode_block.result in
     let long = length-take-le 48 c.decode_block.result (omega (arith, c.decode_block.ensures.len)) in
     rw (p.1, p.2) (ends_within step (c.loop-at.at + 64) (omega arith) reads
@@ -37,7 +37,7 @@ loop-at-preserved g c =
     let w = rw (put_chunk_whole (replicate 64 0) c.decode_block.result (sym c.decode_block.ensures.len)) at
     c.in_ok-write.ensures.called in
     let reads = block_reads step c.args.text.now c.loop-at.at i.between (omega arith)
-    (sym c.if-not-is_block_of_symbols.false ∙ c.is_block_of_symbols.ensures) c.decode_block.ensures.bytes i.reads in
+    (sym c.if-not-is_of_symbols.false ∙ c.is_of_symbols.ensures) c.decode_block.ensures.bytes i.reads in
     let bytes = take 48 c.decode_block.result in
     let long = length-take-le 48 c.decode_block.result (omega (arith, c.decode_block.ensures.len)) in
     record {

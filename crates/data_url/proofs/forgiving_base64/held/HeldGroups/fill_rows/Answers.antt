@@ -2,7 +2,7 @@ use Rattle.std.proofs.Common.{◌+◌, ◌-◌, ◌∙◌, ◌≡◌, ap, arith,
 use Rattle.std.{proofs.lemmas.List.{take_rest}, specs.{Char.{is_ascii_whitespace}, List.{list_all, prefix_len}}}
 use Rattle.data_url.specs.Base64.{is_symbol}
 use Rattle.data_url.proofs.forgiving_base64.Groups.{leaves_all, leaves_read, row_leaves, row_leaves_at, row_long}
-use Rattle.data_url.proofs.forgiving_base64.{Groups.{prefix_passes}}
+use Rattle.data_url.proofs.{classes.Lookups.{all_in_rows}, forgiving_base64.Groups.{prefix_passes}}
 use Rattle.data_url.proofs.forgiving_base64.held.HeldGroups.fill_rows.Goals as goal
 
 pub loop-at-init : goal.loop-at-init
@@ -22,7 +22,7 @@ loop-at-preserved-then-is_of_symbols c =
     let text = c.args.text.now in
     let row = c.row-row.result in
     let long = row_long (drop l.at text) c.row-row.ensures (omega (arith, length-drop l.at text, i.rows)) in
-    let all = sym c.is_of_symbols.ensures ∙ c.if-is_of_symbols.true in
+    let all = sym (c.is_of_symbols.ensures ∙ all_in_rows is_symbol row c.repeated.ensures) ∙ c.if-is_of_symbols.true in
     record {
       within = omega (arith, i.rows);
       few = omega (arith, i.full);
