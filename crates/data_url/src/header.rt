@@ -39,7 +39,9 @@ fn serialised(alloc: Global, header: &[u8]) -> Result<String, AllocError>
     let (path, query) = header.split_at(long_span(Class::Path, header));
     let (path, space) = split_last_space(path, query);
     push_encoded(&mut text, EncodeSet::Path, path)?;
-    text.push_str(space)?;
+    if !space.is_empty() {
+        text.push_str(space)?;
+    }
     push_encoded(&mut text, EncodeSet::Query, query)?;
     Ok(text)
 }

@@ -15,7 +15,7 @@ use Rattle.data_url.specs.Steps.Parsing.{unescaped, HasNoHead, IsTokens, after_c
 use Rattle.data_url.proofs.{examples.Literals.{on_literals}, texts.CodePoints.{same_empty, trimmed_end_is, IsCutInto}}
 use Rattle.data_url.proofs.{texts.CodePoints.{IsSteady, cut_front, front_further, front_passes}, mime.Items.{has_parts}}
 use Rattle.data_url.proofs.{mime.{Items.{trimmed_of}, TokenTexts.{values_steady, whole_front}}, runs.Runs.{match_map}}
-use Rattle.data_url.proofs.mime.TokenTexts.{spaces_end, spaces_steady, tokens}
+use Rattle.data_url.proofs.mime.TokenTexts.{all_from_every, spaces_end, spaces_steady, tokens}
 use lib.Utf8.{encode}
 
 -- a byte of the UTF-8 of quoted-string code points is below 196
@@ -89,17 +89,20 @@ module _ {text bytes : List ℕ} {q more : ℕ} (u : IsUtf8 text) (e : bytes ≡
     some_value x m = let v = value_is in grind arith
 
 -- the text of a quoted string has only quoted-string code points exactly if its value has
-unescaped_quotable : (e : Bool) (s : List ℕ) → list_all is_quotable (unescaped e s) ≡ list_all is_quotable s
+pub unescaped_quotable : (e : Bool) (s : List ℕ) → list_all is_quotable (unescaped e s) ≡ list_all is_quotable s
 unfolding is_quotable
 unescaped_quotable true [] = refl
 unescaped_quotable false [] = refl
 unescaped_quotable true (c ∷ s) = grind (arith, unescaped_quotable false s)
 unescaped_quotable false (c ∷ s) = grind (arith, unescaped_quotable false s, unescaped_quotable true s)
 
--- the value of a quoted string is quotable exactly if the longest prefix of quotable bytes is the whole text
+-- the code points of a text are quotable exactly if the longest prefix of quotable bytes is the whole text
 pub quotable_by : (bs : List ℕ) → IsUtf8 bs
-    → list_all is_quotable (unescaped false (chars bs)) ≡ (prefix_len is_quotable_byte bs == length bs)
-quotable_by bs u = cc (unescaped_quotable false (chars bs), quotable_chars bs u, whole_front is_quotable_byte bs)
+    → list_all is_quotable (chars bs) ≡ (prefix_len is_quotable_byte bs == length bs)
+quotable_by bs u = cc (quotable_chars bs u, whole_front is_quotable_byte bs)
+
+-- the lemmas for `values.rt`
+pub ruleset quotable_values = (quotable_by, unescaped_quotable)
 
 -- if a class is steady, and each byte of a UTF-8 text passes, so does each of its code points
 pub whole_passes : (p : ℕ → Bool) → IsSteady p → (bs bytes : List ℕ) (n : ℕ) → IsUtf8 bs → bytes ≡ bs
@@ -115,10 +118,14 @@ stays_unescaped (c ∷ cs) h = grind (arith, stays_unescaped cs h.1)
 pub unescaped_steady : IsSteady (λ c. not (is_escaped c))
 unescaped_steady c l = grind arith
 
--- a copy of a text without '"' and '\' is its value
-pub copied : (v q bytes : List ℕ) (n : ℕ) → IsUtf8 q → bytes ≡ q → n ≡ prefix_len (λ c. not (is_escaped c)) bytes
-    → n ≡ length q → v ≡ q → chars v ≡ unescaped false (chars q)
-copied v q bytes n u e f g h = grind (arith, whole_passes, unescaped_steady, stays_unescaped)
+-- the value of a quoted string that comes before the first '"' and the first '\' is its text
+pub verbatim : (bytes text : List ℕ) (n : ℕ) → IsUtf8 text → n ≡ prefix_len (λ c. not (is_escaped c)) bytes
+    → text ≡ take n bytes → unescaped false (chars text) ≡ chars text
+verbatim bytes text n u e f =
+    let p = λ (c : ℕ). not (is_escaped c) in
+    let every : Every p text = rw (f ∙ ap (λ k. take k bytes) e) (front_passes p bytes) in
+    let whole = sym (eqb-true _ _ (sym (whole_front p text) ∙ all_from_every p text every)) in
+    stays_unescaped (chars text) (whole_passes p unescaped_steady text text (length text) u refl whole refl)
 
 -- the lemmas for `read_plain`
 pub ruleset plain_values = (cut_plain, no_value, some_value)

@@ -135,6 +135,7 @@ quotable_value (Some value) = if list_all is_quotable value then Some value else
 abbrev pub value_of : Value → Option (List ℕ)
 value_of slices.Missing = None
 value_of (slices.Plain text) = Some (chars text.now)
+value_of (slices.Verbatim text) = quotable_value (Some (chars text.now))
 value_of (slices.Quoted text) = quotable_value (Some (unescaped false (chars text.now)))
 
 -- the pair of a name and a value: none if the name is not a token text, or there is no value

@@ -1,10 +1,10 @@
 //! Reads a MIME type (MIME Sniffing Standard, section 4.4).
 
-ghost use Rattle.std.specs.Prelude.{◌≡◌, ◌≢◌, ◌<◌, ◌++◌, List, MatchOption, IfOk, IsTrue, OnOk, codes, drop, false, length, map, slice_index, suc, take};
+ghost use Rattle.std.specs.Prelude.{◌≡◌, ◌≢◌, ◌<◌, ◌++◌, List, MatchOption, IfOk, IsTrue, OnOk, codes, drop, false, length, map, slice_index, suc, take, true};
 ghost use Rattle.std.specs.Str.{chars};
 ghost use Rattle.data_url.specs.Mime.{BeginsParameters, IsHead, Item, Items, is_token_text, kept_pairs, valid_of, IsRecordOfParts};
 ghost use Rattle.data_url.specs.Url.{without_start};
-ghost use Rattle.data_url.specs.Steps.Parsing.{HasNoHead, Quoting, given_reading, in_value, item_in, pair_in, plain_reading, quotable_value, quoted_len, reading_in, unless_named, value_of};
+ghost use Rattle.data_url.specs.Steps.Parsing.{HasNoHead, Quoting, given_reading, in_value, item_in, pair_in, plain_reading, quotable_value, quoted_len, reading_in, unescaped, unless_named, value_of};
 ghost use Rattle.data_url.specs.{Steps.Kept.{IsIndexed, pairs_of}, MimeType.{pair_of, record_of}};
 
 use super::Mime;
@@ -117,8 +117,13 @@ fn read_value(text: &str) -> (Value<'_>, &str)
     let Some(quoted) = after_char(text, '"') else {
         return read_plain(text);
     };
-    let (value, after) = split_quote(quoted);
-    (Value::Quoted(value), from_semicolon(after))
+    let (text, is_verbatim, after) = split_quote(quoted);
+    let value = if is_verbatim {
+        Value::Verbatim(text)
+    } else {
+        Value::Quoted(text)
+    };
+    (value, from_semicolon(after))
 }
 
 /// Returns the value after a `=` that does not begin with `"`, and the text after it.
@@ -137,24 +142,28 @@ fn read_plain(text: &str) -> (Value<'_>, &str)
     (Value::Plain(value), rest)
 }
 
-/// Splits a text at the quote that closes a quoted string. If there is none, the whole text is the quoted string.
-#[tactic(auto, using(crate::proofs::mime::TokenTexts::quotes))]
-fn split_quote(text: &str) -> (&str, &str)
+/// Splits a text at the quote that closes a quoted string. If there is none, the whole text is the quoted string. The flag is whether
+/// this has neither `"` nor `\`.
+#[tactic(auto, using(crate::proofs::mime::TokenTexts::quotes, crate::proofs::mime::Parsing::verbatim))]
+fn split_quote(text: &str) -> (&str, bool, &str)
     ensures quoted { chars result.0.now
         ≡ take (quoted_len false (chars text.now)) (chars text.now) }
-    ensures after { chars result.1.now
+    ensures verbatim { result.1 ≡ true
+        → unescaped false (chars result.0.now) ≡ chars result.0.now }
+    ensures after { chars result.2.now
         ≡ drop (suc (quoted_len false (chars text.now))) (chars text.now) }
 {
     let bytes = text.as_bytes();
-    let mut place = long_span(Class::Unescaped, bytes);
+    let verbatim = long_span(Class::Unescaped, bytes);
+    let mut place = verbatim;
     while place < bytes.len() {
         if bytes[place] == b'"' {
-            return (&text[..place], &text[place + 1..]);
+            return (&text[..place], place == verbatim, &text[place + 1..]);
         }
         let from = bytes.len().min(place + 2);
         place = from + span_if_any(Class::Unescaped, &bytes[from..]);
     }
-    (text, "")
+    (text, verbatim == bytes.len(), "")
 }
 
 /// The length of the shortest valid parameter, such as `;a=b`, in bytes; about half of what most take.

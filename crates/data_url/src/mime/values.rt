@@ -1,9 +1,9 @@
 //! Values of parameters, as slices of a text and as texts of their own.
-#![tactic(auto, using(crate::proofs::mime::FirstNames::lower_chars, crate::proofs::mime::Parsing::quotable_by))]
+#![tactic(auto, using(crate::proofs::mime::FirstNames::lower_chars, crate::proofs::mime::Parsing::quotable_values))]
 
 ghost use Rattle.std.specs.Prelude.{◌≡◌, ◌<◌, ◌≤◌, ◌+◌, ◌-◌, ◌++◌, IfOk, IsTrue, drop, false, length, map, take, true};
-ghost use Rattle.std.specs.{Char.{to_ascii_lowercase}, Option.{option_map}, Str.{chars}};
-ghost use Rattle.data_url.specs.{Mime.{is_token_text}, Steps.Parsing.{unescaped, value_of}, MimeType.{code_points}};
+ghost use Rattle.std.specs.{Char.{to_ascii_lowercase}, List.{list_all}, Option.{option_map}, Str.{chars}};
+ghost use Rattle.data_url.specs.{CodePoints.{is_quotable}, Mime.{is_token_text}, Steps.Parsing.{unescaped, value_of}, MimeType.{code_points}};
 
 use crate::classes::lanes::{ROW, is_unmarked, marks, put, repeated, row};
 use crate::classes::{Class, ESCAPED, has, long_span};
@@ -16,7 +16,9 @@ pub(super) enum Value<'a> {
     Missing,
     /// A value without quotes, of quoted-string code points.
     Plain(&'a str),
-    /// The text between the quotes, or after the first one up to the end.
+    /// The text of a quoted string that has no `\`.
+    Verbatim(&'a str),
+    /// The text of another quoted string: between the quotes, or after the first one up to the end.
     Quoted(&'a str),
 }
 
@@ -28,12 +30,19 @@ impl<'a> Value<'a> {
     {
         match self {
             Value::Plain(text) => Ok(Some(String::from_str(alloc, text)?)),
-            Value::Quoted(text) if long_span(Class::Quotable, text.as_bytes()) == text.len() => {
-                Ok(Some(unescaped(alloc, text)?))
-            }
+            Value::Verbatim(text) if is_quotable(text) => Ok(Some(String::from_str(alloc, text)?)),
+            Value::Quoted(text) if is_quotable(text) => Ok(Some(unescaped(alloc, text)?)),
             _ => Ok(None),
         }
     }
+}
+
+/// Whether all code points of a text are quoted-string code points.
+#[inline(always)]
+fn is_quotable(text: &str) -> bool
+    ensures { result ≡ list_all is_quotable (chars text.now) }
+{
+    long_span(Class::Quotable, text.as_bytes()) == text.len()
 }
 
 /// Returns the value of a quoted string: without the `\` before a code point.
@@ -41,9 +50,6 @@ fn unescaped(alloc: Global, quoted: &str) -> Result<String, AllocError>
     ensures { IfOk result (λ text. code_points text ≡ unescaped false (chars quoted.now)) }
 {
     let bytes = quoted.as_bytes();
-    if long_span(Class::Unescaped, bytes) == bytes.len() {
-        return String::from_str(alloc, quoted);
-    }
     let mut value = vec![in alloc; 0; bytes.len()]?;
     let mut at = copy_rows(bytes, &mut value, 0);
     let mut len = at;
