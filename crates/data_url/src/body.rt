@@ -39,7 +39,7 @@ where
     Ok(pieces.end())
 }
 
-/// Decodes a tail up to its first `#` or `%`, part by part, since `feed_unescaped` allows for no longer ones: so the decoder cannot
+/// Decodes a tail up to its first `#` or `%`, in parts of at most 4 KiB, the most that `feed_unescaped` accepts. So the decoder cannot
 /// read far past a fault. Returns the place of that byte, or the length of the tail.
 fn feed_front<F, E>(decoder: &mut Decoder<F, E>, tail: &[u8]) -> Result<usize, DecodeError<E>>
 where

@@ -1,6 +1,6 @@
 //! The header of a data: URL (Fetch Standard, section 6), from its text in the input.
 
-ghost use Rattle.std.specs.Prelude.{◌≡◌, IfOk, IfSome, List, string_bytes, true, ℕ};
+ghost use Rattle.std.specs.Prelude.{◌≡◌, if◌then◌else◌, [], IfOk, IfSome, List, codes, string_bytes, true, ℕ};
 ghost use Rattle.data_url.specs.{Url.{without_tabs_and_newlines}, Fetch.{before_base64, with_plain}};
 ghost use Rattle.data_url.specs.Mime.{Record, default_record};
 ghost use Rattle.data_url.specs.Steps.Header.{IsHeaderOf, IsPathAndQuery, IsPrintable, IsRecordFor, IsSerialised, encoded_parts, header_text};
@@ -14,18 +14,18 @@ use std::alloc::{AllocError, Global};
 
 const SUFFIX: [u8; 6] = *b"base64";
 
-/// Splits off the space at the end of a path that a query follows. Returns the path without it, and the space as it is written.
+/// Splits off the space at the end of a path that a query follows. Returns the path without it, and whether there is one.
 #[tactic(auto, using(crate::proofs::header::Serialising::last_spaces))]
-fn split_last_space<'a>(path: &'a [u8], query: &[u8]) -> (&'a [u8], &'static str)
+fn split_last_space<'a>(path: &'a [u8], query: &[u8]) -> (&'a [u8], bool)
     ensures { (header : List ℕ) → IsPathAndQuery header path.now query.now
-        → encoded_parts result.0.now result.1.now query.now
+        → encoded_parts result.0.now (if result.1 then codes "%20" else []) query.now
         ≡ header_text (without_tabs_and_newlines header) }
 {
     let end = path.len() - end_span(Class::TabOrNewline, path);
     if query.is_empty() || end == 0 || path[end - 1] != b' ' {
-        return (path, "");
+        return (path, false);
     }
-    (&path[..end - 1], "%20")
+    (&path[..end - 1], true)
 }
 
 /// Returns the text of a header, serialised. Room is allocated once for a header of at most 128 bytes; for a longer one it may grow.
@@ -37,10 +37,10 @@ fn serialised(alloc: Global, header: &[u8]) -> Result<String, AllocError>
 {
     let mut text = String::with_capacity(alloc, header.len() + 2 * header.len().min(PART))?;
     let (path, query) = header.split_at(long_span(Class::Path, header));
-    let (path, space) = split_last_space(path, query);
+    let (path, has_space) = split_last_space(path, query);
     push_encoded(&mut text, EncodeSet::Path, path)?;
-    if !space.is_empty() {
-        text.push_str(space)?;
+    if has_space {
+        text.push_str("%20")?;
     }
     push_encoded(&mut text, EncodeSet::Query, query)?;
     Ok(text)

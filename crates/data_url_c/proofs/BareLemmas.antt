@@ -29,7 +29,7 @@ all_front p (b ∷ s) = elim (cases_Bool (p b)) [
   | inr e ↦ ap (λ k. list_all p (take k (b ∷ s))) (ap (λ v. cond v (1 + prefix_len p s) 0) e)
 ]
 
--- a text that begins with a name and a slash, and ends with a name, is a type, a slash and a subtype
+-- a text that begins with a word and a slash, and ends with a word, is a type, a slash and a subtype
 pub is_media : (media subtype : List ℕ) (slash n : ℕ) → slash ≡ prefix_len is_bare media → slash ≢ 0
     → slash < length media → get_or media slash 0 ≡ 47
     → subtype ≡ take (length media - (slash + 1)) (drop (slash + 1) media) → 0 < length subtype
@@ -77,7 +77,7 @@ pair_too_long a b {old} l =
 
 -- Bytes
 
--- a byte of a header: one of a name, '/' or ';'
+-- a byte of a header: one of a word, '/' or ';'
 abbrev pub is_plain : ℕ → Bool
 is_plain b = is_bare b || ((b == 47) || (b == 59))
 
@@ -87,7 +87,7 @@ pub all_more : (p q : ℕ → Bool) → ((b : ℕ) → p b ≡ true → q b ≡ 
 all_more p q f [] h = refl
 all_more p q f (b ∷ s) h = let k = and_parts (p b) (list_all p s) h in cc (f b k.0, all_more p q f s k.1)
 
--- each byte of a name is one
+-- each byte of a word is one of a header
 plain_byte : (b : ℕ) → is_bare b ≡ true → is_plain b ≡ true
 plain_byte b h = grind (arith, h)
 
@@ -95,7 +95,7 @@ plain_byte b h = grind (arith, h)
 abbrev pub in_media : ℕ → Bool
 in_media b = is_bare b || (b == 47)
 
--- each byte of a name is one
+-- each byte of a word is one of these
 media_byte : (b : ℕ) → is_bare b ≡ true → in_media b ≡ true
 media_byte b h = grind (arith, h)
 
@@ -111,9 +111,9 @@ ascii_byte b h = grind (arith, common_steps, h)
 encodes : (s : List ℕ) → list_all is_plain s ≡ true → s ≡ encode_utf8_all s
 encodes s h = ascii_encoded s (ascii_all s (all_more is_plain (λ b. nat_lt b 128) ascii_byte s h))
 
--- so is a name
-encodes_name : (s : List ℕ) → IsTypeWord s → s ≡ encode_utf8_all s
-encodes_name s h = encodes s (all_more is_bare is_plain plain_byte s h.all)
+-- so is a word
+encodes_word : (s : List ℕ) → IsTypeWord s → s ≡ encode_utf8_all s
+encodes_word s h = encodes s (all_more is_bare is_plain plain_byte s h.all)
 
 -- The forms of the record
 
@@ -145,6 +145,6 @@ media_serialised media slash h =
 pub media_parts : (media : List ℕ) (slash : ℕ) → IsMedia media slash
     → part (take slash media) ++ part (drop (slash + 1) media) ≡ parts_of (record_at media slash)
 media_parts media slash h =
-    let a = ap part (encodes_name (take slash media) h.type_) in
-    let b = ap part (encodes_name (drop (slash + 1) media) h.subtype) in
+    let a = ap part (encodes_word (take slash media) h.type_) in
+    let b = ap part (encodes_word (drop (slash + 1) media) h.subtype) in
     cc (a, b, append-nil (part (encode_utf8_all (drop (slash + 1) media))))

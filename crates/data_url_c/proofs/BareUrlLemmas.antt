@@ -47,7 +47,7 @@ stays_byte b h = (
   grind (arith, common_steps, h),
 )
 
--- a byte of a name is an HTTP token code point
+-- a byte of a word is an HTTP token code point
 token_byte : (b : ℕ) → is_bare b ≡ true → is_token b ≡ true
 unfolding is_token
 token_byte b h = grind (arith, common_steps, h)
@@ -56,16 +56,16 @@ token_byte b h = grind (arith, common_steps, h)
 lower_byte : (b : ℕ) → is_bare b ≡ true → to_ascii_lowercase b ≡ b
 lower_byte b h = grind (arith, common_steps, h)
 
--- a name is in lower case
-lower_name : (s : List ℕ) → list_all is_bare s ≡ true → map to_ascii_lowercase s ≡ s
-lower_name [] h = refl
-lower_name (b ∷ s) h =
-    let k = and_parts (is_bare b) (list_all is_bare s) h in cc (lower_byte b k.0, lower_name s k.1)
+-- a word is in lower case
+lower_word : (s : List ℕ) → list_all is_bare s ≡ true → map to_ascii_lowercase s ≡ s
+lower_word [] h = refl
+lower_word (b ∷ s) h =
+    let k = and_parts (is_bare b) (list_all is_bare s) h in cc (lower_byte b k.0, lower_word s k.1)
 
 -- it is a token text
-token_name : (s : List ℕ) → IsTypeWord s → is_token_text s ≡ true
-token_name [] h = absurd (omega (arith, h.some))
-token_name (b ∷ s) h = all_more is_bare is_token token_byte (b ∷ s) h.all
+token_word : (s : List ℕ) → IsTypeWord s → is_token_text s ≡ true
+token_word [] h = absurd (omega (arith, h.some))
+token_word (b ∷ s) h = all_more is_bare is_token token_byte (b ∷ s) h.all
 
 -- The media type of a header
 
@@ -258,16 +258,16 @@ parses media slash h =
         joined = ap (without_end is_http_whitespace) (start_stays is_http_whitespace none media plain)
             ∙ end_stays is_http_whitespace none media plain ∙ cut_media media slash h
             ∙ ap (λ s. type_ ++ 47 ∷ s) (sym (append-nil subtype));
-        is_type = token_name type_ h.type_;
-        is_subtype = token_name subtype h.subtype;
+        is_type = token_word type_ h.type_;
+        is_subtype = token_word subtype h.subtype;
         in_gap = tt;
         begins = tt;
       };
       record_is = record {
         items = [];
         items_are = refl;
-        type_is = sym (lower_name type_ h.type_.all);
-        subtype_is = sym (lower_name subtype h.subtype.all);
+        type_is = sym (lower_word type_ h.type_.all);
+        subtype_is = sym (lower_word subtype h.subtype.all);
         parameters_are = refl;
       };
     }

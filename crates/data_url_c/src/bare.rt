@@ -62,7 +62,7 @@ fn word_len(bytes: &[u8]) -> usize
 fn slash_of(media: &[u8]) -> Option<usize>
     ensures { IfSome result (IsMedia media.now) }
 {
-    // Most other headers end with a byte that is in no type. This sees it at once.
+    // A header whose last byte is in no type, as a quote, is seen at once.
     if !is_bare(*media.last()?) {
         return None;
     }

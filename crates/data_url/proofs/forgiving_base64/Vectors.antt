@@ -109,11 +109,6 @@ is_other b = not (is_symbol b)
 abbrev pub others_mask : List ℕ → ℕ
 others_mask v = mask_l (map is_other v)
 
--- the mask of the items that do not pass a test is zero exactly if all pass
-pub mask_zero : (p : ℕ → Bool) (v : List ℕ) → eqb (mask_l (map (λ b. not (p b)) v)) 0 ≡ list_all p v
-mask_zero p [] = refl
-mask_zero p (x ∷ v) = grind (arith, mask_zero p v, cases_eq, ne_eqb)
-
 -- the bitwise or of two numbers is zero exactly if both are zero
 pub or_zero : (x y : ℕ) → eqb (bit_or x y) 0 ≡ (eqb x 0 && eqb y 0)
 or_zero x y = grind (arith, cases_eq, ne_eqb, or_add_and, and_le_l, and_le_r)

@@ -5,7 +5,6 @@ use Rattle.std.proofs.Common.{append_assoc, ◌⊎◌, true, sym, inl, inr, eqb-
 use Rattle.std.proofs.Common.{length-take, get_or-take, length-drop, length-take-le, take-take, ◌≡◌, ◌≢◌, ℕ, ◌+◌, ◌-◌}
 use Rattle.std.proofs.Common.{◌<◌, ◌≤◌, List, [], ◌∷◌, length, get_or, take, drop, map, codes}
 use Rattle.std.proofs.{Math.Seq.{drop-append-add, take-append-add}, lemmas.Bool.{cases_lt, ne_eqb, cases_Bool}}
-use Rattle.std.proofs.lemmas.List.{nil_from_length}
 use Rattle.std.proofs.lemmas.{Bool.{not-true, not-false}, List.Folds.{prefix_len-append}, Slice.Eq.{bytes_eq-Decides}}
 use Rattle.std.proofs.lemmas.List.Sums.{prefix_len_passes, prefix_len_stops, suffix_len-le-length, prefix_len-drop_no}
 use Rattle.std.proofs.lemmas.List.{length-map, drop_all, drop_more, drop-append-le, Sums.{prefix_len-le-length}}
@@ -330,4 +329,4 @@ flag_of_spaces s = flag_by (before 63 s) (after 63 s) (differs_by (before 63 s))
 pub ruleset last_spaces = (parts_whole, parts_spaced, has_no_end, has_other_end, dropped_end, suffix_len-le-length)
 
 -- the lemmas for `serialised`
-pub ruleset serialising = (encoded, append_assoc, append-nil, cut_at_query, nil_from_length, prefix_len-le-length)
+pub ruleset serialising = (encoded, append_assoc, cut_at_query, prefix_len-le-length)

@@ -69,7 +69,7 @@ const FOUR_TIMES: [usize; 64] = [
     10, 11, 12, 13, 14, 15,
 ];
 
-/// Returns a block that has a row four times. If only the first row of a result is used, the compiler computes that row alone.
+/// Returns a block that has a row four times. What is computed from each of these rows is the same, so the compiler computes it once.
 #[inline(always)]
 pub(crate) fn repeated(row: u8x16) -> u8x64
     ensures { result ≡ row ++ row ++ row ++ row }
@@ -109,7 +109,7 @@ pub(crate) fn marks(others: &[u8], row: u8x16) -> u64
         .to_bitmask()
 }
 
-/// Whether no byte of a block is marked. As a test for a branch, this takes fewer instructions than the bits of `marks`.
+/// Whether no byte of a block is marked. As a test for a branch, this takes fewer instructions than `marks`.
 #[inline(always)]
 pub(crate) fn is_unmarked(others: &[u8], block: u8x64) -> bool
     requires { 16 ≤ length others.now }

@@ -93,12 +93,12 @@ pub(crate) fn is_of_symbols(bytes: u8x64) -> bool
     is_unmarked(&SYMBOLS, bytes)
 }
 
-/// Whether all bytes of a row are symbols or white space.
+/// Whether all bytes of a block are symbols or white space.
 #[inline(always)]
-pub(crate) fn is_spaced(bytes: u8x16) -> bool
+pub(crate) fn is_spaced(bytes: u8x64) -> bool
     ensures { result ≡ list_all is_symbol_or_space bytes }
 {
-    marks(&SPACED, bytes) == 0
+    is_unmarked(&SPACED, bytes)
 }
 
 /// The value of each symbol of a block. A byte that is no symbol has some value too.

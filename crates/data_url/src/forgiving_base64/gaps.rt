@@ -61,7 +61,7 @@ pub(crate) fn pack_rows(text: &[u8], symbols: &mut [u8], enough: usize) -> (usiz
     let mut at = 0;
     while have < enough && text.len() - at >= 16 {
         let row = row(text, at);
-        if !is_spaced(row) {
+        if !is_spaced(repeated(row)) {
             break;
         }
         have = pack_row(row, others(row) as usize, symbols, have);

@@ -143,7 +143,7 @@ fn read_plain(text: &str) -> (Value<'_>, &str)
 }
 
 /// Splits a text at the quote that closes a quoted string. If there is none, the whole text is the quoted string. The flag is whether
-/// this has neither `"` nor `\`.
+/// the quoted string has neither `"` nor `\`.
 #[tactic(auto, using(crate::proofs::mime::TokenTexts::quotes, crate::proofs::mime::Parsing::verbatim))]
 fn split_quote(text: &str) -> (&str, bool, &str)
     ensures quoted { chars result.0.now
@@ -154,16 +154,16 @@ fn split_quote(text: &str) -> (&str, bool, &str)
         ≡ drop (suc (quoted_len false (chars text.now))) (chars text.now) }
 {
     let bytes = text.as_bytes();
-    let verbatim = long_span(Class::Unescaped, bytes);
-    let mut place = verbatim;
+    let plain_len = long_span(Class::Unescaped, bytes);
+    let mut place = plain_len;
     while place < bytes.len() {
         if bytes[place] == b'"' {
-            return (&text[..place], place == verbatim, &text[place + 1..]);
+            return (&text[..place], place == plain_len, &text[place + 1..]);
         }
         let from = bytes.len().min(place + 2);
         place = from + span_if_any(Class::Unescaped, &bytes[from..]);
     }
-    (text, verbatim == bytes.len(), "")
+    (text, plain_len == bytes.len(), "")
 }
 
 /// The length of the shortest valid parameter, such as `;a=b`, in bytes; about half of what most take.

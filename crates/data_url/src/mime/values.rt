@@ -16,7 +16,7 @@ pub(super) enum Value<'a> {
     Missing,
     /// A value without quotes, of quoted-string code points.
     Plain(&'a str),
-    /// The text of a quoted string that has no `\`.
+    /// The text of a quoted string that has neither `"` nor `\`.
     Verbatim(&'a str),
     /// The text of another quoted string: between the quotes, or after the first one up to the end.
     Quoted(&'a str),

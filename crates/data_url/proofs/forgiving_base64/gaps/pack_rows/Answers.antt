@@ -1,5 +1,6 @@
 use Rattle.std.proofs.Common.{arith, drop, length-drop, refl, sym, ◌∙◌}
-use Rattle.data_url.proofs.forgiving_base64.Groups.{row_long}
+use Rattle.data_url.specs.Steps.Groups.{is_symbol_or_space}
+use Rattle.data_url.proofs.{classes.Lookups.{all_in_rows}, forgiving_base64.Groups.{row_long}}
 use Rattle.data_url.proofs.forgiving_base64.Packed.{others_small, row_spaced, row_symbols}
 use Rattle.data_url.proofs.forgiving_base64.gaps.pack_rows.Goals as goal
 
@@ -29,7 +30,8 @@ loop-have-preserved c =
       within = omega arith;
       room = omega (arith, i.room, c.pack_row-have.auto.bytes);
       spaced = row_spaced text row.result c.loop-have.at i.spaced row.ensures
-          (sym c.is_spaced.ensures ∙ c.if-not-is_spaced.false);
+          (sym (c.is_spaced.ensures ∙ all_in_rows is_symbol_or_space row.result c.repeated.ensures)
+          ∙ c.if-not-is_spaced.false);
       packed = row_symbols text c.loop-have.symbols c.pack_row-have.new.bytes row.result c.loop-have.have c.loop-have.at
           c.pack_row-have.result i.packed row.ensures c.others.ensures packed.kept;
     }
