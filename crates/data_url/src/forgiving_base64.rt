@@ -16,9 +16,8 @@ mod left_over;
 
 pub use decode::Decoder;
 
-/// Why a text is not valid base64
-/// ([Infra Standard, forgiving-base64 decode](https://infra.spec.whatwg.org/#forgiving-base64-decode)). There are
-/// four kinds:
+/// Why a text is not valid base64 ([Infra Standard, forgiving-base64
+/// decode](https://infra.spec.whatwg.org/#forgiving-base64-decode)). There are four kinds:
 ///
 /// - an unexpected symbol, with its byte, which is neither white space nor `=` nor in the alphabet;
 /// - an alphabet symbol after padding: a `=` is somewhere before it;
@@ -73,9 +72,8 @@ impl fmt::Display for InvalidBase64 {
 
 impl Error for InvalidBase64 {}
 
-/// Why decoding ended early: the text is not valid base64
-/// ([Infra Standard, forgiving-base64 decode](https://infra.spec.whatwg.org/#forgiving-base64-decode)), or the
-/// closure returned an error.
+/// Why decoding ended early: the text is not valid base64 ([Infra Standard, forgiving-base64
+/// decode](https://infra.spec.whatwg.org/#forgiving-base64-decode)), or the closure returned an error.
 #[derive(Debug, Drop)]
 pub enum DecodeError<E> {
     /// The text is not valid base64.
@@ -99,9 +97,8 @@ impl<E: fmt::Display> fmt::Display for DecodeError<E> {
 
 impl<E: Error> Error for DecodeError<E> {}
 
-/// Why a text was not decoded into a vector: it is not valid base64
-/// ([Infra Standard, forgiving-base64 decode](https://infra.spec.whatwg.org/#forgiving-base64-decode)), or allocation
-/// failed.
+/// Why a text was not decoded into a vector: it is not valid base64 ([Infra Standard, forgiving-base64
+/// decode](https://infra.spec.whatwg.org/#forgiving-base64-decode)), or allocation failed.
 #[derive(Debug, Drop)]
 pub enum DecodeToVecError {
     /// The text is not valid base64.

@@ -55,10 +55,9 @@ impl Eq for Mime {
     ghost laws = { same_texts_equiv };
 }
 
-/// Writes a record
-/// ([MIME Sniffing Standard, section 4.5](https://mimesniff.spec.whatwg.org/#serializing-a-mime-type)), valid or not.
-/// A value that is empty, or has a code point that is not a token code point, is in quotes, with a `\` before each
-/// `"` and each `\`.
+/// Writes a record ([MIME Sniffing Standard, section 4.5](https://mimesniff.spec.whatwg.org/#serializing-a-mime-type)),
+/// valid or not. A value that is empty, or has a code point that is not a token code point, is in quotes, with a `\`
+/// before each `"` and each `\`.
 impl fmt::Display for Mime {
     ghost use Rattle.std.specs.Str.{encode_utf8_all};
     ghost use Rattle.data_url.specs.{Mime.{printed}, MimeType.{record_of}};

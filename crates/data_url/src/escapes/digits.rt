@@ -77,8 +77,7 @@ impl<'a> Source<'a> {
     }
 
     /// Returns the value of the hexadecimal digit from a place on, past tabs and newlines, and the place after it. If the place
-    /// is `inside`, it is known to be before the end of the text. The loop after a tab or newline reads a text of its own, so that
-    /// the walk's can stay in registers.
+    /// is `inside`, it is known to be before the end of the text.
     #[inline(always)]
     fn digit(&mut self, place: usize, inside: bool) -> Option<(u8, usize)>
         requires within { place ≤ length self.old.text.now }
@@ -91,14 +90,22 @@ impl<'a> Source<'a> {
         }
         match digit_code(self.look(place)) {
             value if value < PASSED => Some((value, place + 1)),
-            PASSED => {
-                let mut source = replace(self, Source::new(""));
-                let found = source.digit_by_loop(place + 1);
-                *self = source;
-                found
-            }
+            PASSED => self.digit_further(place + 1),
             _ => None,
         }
+    }
+
+    /// Does what `digit_by_loop` does, through a text of its own, so that the walk's can stay in registers.
+    #[inline(always)]
+    fn digit_further(&mut self, place: usize) -> Option<(u8, usize)>
+        requires { place ≤ length self.old.text.now }
+        ensures text { self.new.text.now ≡ self.old.text.now }
+        ensures found { IsDigitFrom self.old.text.now place self.old.looks self.new.looks result }
+    {
+        let mut source = replace(self, Source::new(""));
+        let found = source.digit_by_loop(place);
+        *self = source;
+        found
     }
 
     /// Does what `digit` does, with a loop over tabs and newlines.

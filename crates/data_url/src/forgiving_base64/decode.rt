@@ -12,9 +12,8 @@ use std::simd::prelude::*;
 /// How many bytes the closure is called with at most: those of a block of 64 symbols.
 const PIECE: usize = 48;
 
-/// A decoder of base64
-/// ([Infra Standard, forgiving-base64 decode](https://infra.spec.whatwg.org/#forgiving-base64-decode)) that is fed
-/// its text in parts, cut anywhere, and calls a closure with the bytes.
+/// A decoder of base64 ([Infra Standard, forgiving-base64 decode](https://infra.spec.whatwg.org/#forgiving-base64-decode)) that
+/// is fed its text in parts, cut anywhere, and calls a closure with the bytes.
 ///
 /// It allocates nothing: it keeps at most three symbols, and counts the padding `=` up to three. Contracts see its
 /// closure, these symbols, that count and whether it has failed (`state_of`).
@@ -125,8 +124,9 @@ where
         if !self.state.is_between_groups() {
             return Ok(0);
         }
+        let end = text.len().saturating_sub(BLOCK - 1);
         let mut at = 0;
-        while text.len() - at >= BLOCK {
+        while at < end {
             let block = u8x64::from_slice(&text[at..]);
             if !is_of_symbols(block) {
                 return Ok(at);
