@@ -347,6 +347,22 @@ fn long_types() {
     }
 }
 
+/// A long value of the only parameter, around the same lengths.
+#[test]
+fn long_values() {
+    for len in 215..262 {
+        let value = "D".repeat(len);
+        for (suffix, body) in &[("", "QQ"), (";base64", "A")] {
+            let url = format!("data:a/b;c={}{},QQ", value, suffix);
+            let url = DataUrl::process(&url).unwrap();
+            let mime = url.mime_type();
+            assert!(mime.matches("a", "b") && mime.parameters.len() == 1);
+            assert_eq!(mime.get_parameter("c"), Some(&value[..]));
+            assert_eq!(url.decode_to_vec().unwrap().0, body.as_bytes());
+        }
+    }
+}
+
 /// How many symbols a decoder reads in one step, with or without white space in one place.
 const ROW: usize = 16;
 

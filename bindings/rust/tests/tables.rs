@@ -22,7 +22,7 @@ const EXCLAMATION: &str = "base64 not valid: symbol with codepoint 33 not expect
 /// Texts, their printed records, the bytes of their bodies before the first fault, and the message of the error, or `#` and
 /// the fragment, or nothing.
 #[rustfmt::skip]
-const URLS: [[&str; 4]; 62] = [
+const URLS: [[&str; 4]; 86] = [
     ["data:,Hello%20World!", DEFAULT, "Hello World!", ""],
     ["\0 DA\tTA:\n,x \u{1f}", DEFAULT, "x", ""],
     ["da ta:,x", "", "", NO_SCHEME],
@@ -85,6 +85,30 @@ const URLS: [[&str; 4]; 62] = [
     ["data:;base64,!#x", DEFAULT, "", EXCLAMATION],
     ["data:;base64,QUJDREVGR0g=", DEFAULT, "ABCDEFGH", ""],
     ["data:A/B;C=D,x\n", "a/b;c=D", "x", ""],
+    ["data:text/plain;charset=x;base64,QQ", "text/plain;charset=x", "A", ""],
+    ["data:a/b;c=base64,QQ", "a/b;c=base64", "QQ", ""],
+    ["data:a/b;c=BASE64,QQ", "a/b;c=BASE64", "QQ", ""],
+    ["data:a/b;c=xbase64,QQ", "a/b;c=xbase64", "QQ", ""],
+    ["data:a/b;base64=base64,QQ", "a/b;base64=base64", "QQ", ""],
+    ["data:a/b;base64;c=d,QQ", "a/b;c=d", "QQ", ""],
+    ["data:a/b;c=d;base64;base64,QQ", "a/b;c=d", "A", ""],
+    ["data:a/b;c=,QQ", "a/b", "QQ", ""],
+    ["data:a/b;c=;base64,QQ", "a/b", "A", ""],
+    ["data:a/b;=d,QQ", "a/b", "QQ", ""],
+    ["data:a/b;c==d,QQ", "a/b;c=\"=d\"", "QQ", ""],
+    ["data:a/b;c=\"d\",QQ", "a/b;c=d", "QQ", ""],
+    ["data:a/b;C=d,QQ", "a/b;c=d", "QQ", ""],
+    ["data:a/b;c=D;base64,QQ", "a/b;c=D", "A", ""],
+    ["data:a/b;c=d ;base64,QQ", "a/b;c=d", "A", ""],
+    ["data:a/b;c=d;,QQ", "a/b;c=d", "QQ", ""],
+    ["data:a/b;c=d;e=f,QQ", "a/b;c=d;e=f", "QQ", ""],
+    ["data:a/b;c=d;c=e;base64,QQ", "a/b;c=d", "A", ""],
+    ["data:a/b;c;d=e,QQ", "a/b;d=e", "QQ", ""],
+    ["data:a/b;c=d/e,QQ", "a/b;c=\"d/e\"", "QQ", ""],
+    ["data:a/b;c/d=e,QQ", "a/b", "QQ", ""],
+    ["data:a/b;+-.9=_Z+-.9;base64,QQ", "a/b;+-.9=_Z+-.9", "A", ""],
+    ["data:a/;c=d,x", DEFAULT, "x", ""],
+    ["data:/b;c=d,x", DEFAULT, "x", ""],
 ];
 
 /// Texts, and how their records are printed, or the message for a text that has no record.

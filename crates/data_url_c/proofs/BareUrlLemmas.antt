@@ -1,41 +1,42 @@
--- URLs whose header is a type and a subtype in lower case. For `read_url`.
+-- URLs whose header is a type and a subtype in lower case, with at most one parameter. For `read_url`.
 use Rattle.std.proofs.Common.{◌≡◌, ◌==◌, ℕ, zero, suc, ◌+◌, ◌-◌, ◌<◌, ◌≤◌, ◌^◌, Bool, true, false, List, [], ◌∷◌, ◌++◌}
 use Rattle.std.proofs.Common.{length, get_or, take, drop, map, codes, Option, None, Some, position, refl, sym, ap, ◌∙◌}
 use Rattle.std.proofs.Common.{subst, inl, inr, arith, length-append, append_assoc, append-nil, cond, eqb-true}
-use Rattle.std.proofs.Common.{option_and_then, is_some}
+use Rattle.std.proofs.Common.{is_some, take-append-drop}
 use Rattle.std.specs.Char.{to_ascii_lowercase}
 use Rattle.std.specs.List.{list_all, prefix_len, suffix_len}
+use Rattle.std.specs.Prelude.{not}
 use Rattle.std.specs.Str.{bytes_eq}
 use Rattle.std.proofs.Math.Seq.{drop-append_seam, take-append_seam}
 use Rattle.std.proofs.lemmas.Bool.{and_parts, cases_Bool}
 use Rattle.std.proofs.lemmas.Grind.{common_steps}
-use Rattle.std.proofs.lemmas.List.{length-drop, length-take, take_all}
+use Rattle.std.proofs.lemmas.List.{take_all}
 use Rattle.std.proofs.lemmas.List.Folds.{list_all-append}
 use Rattle.std.proofs.lemmas.Slice.Eq.{bytes_eq-Decides}
-use Rattle.data_url.specs.CodePoints.{is_http_whitespace, is_token}
+use Rattle.data_url.specs.CodePoints.{ends_name, is_http_whitespace, is_quotable, is_semicolon}
 use Rattle.data_url.specs.Fetch.{with_plain, before_semicolon, before_word, without_last, before_base64}
 use Rattle.data_url.specs.Fetch.{has_base64_suffix, is_space, media_of, mime_text, stripped_header}
-use Rattle.data_url.specs.Mime.{IsRecordOf, Parses, is_token_text}
+use Rattle.data_url.specs.Mime.{BeginsParameters, DoesNotBegin, GivesValue, IsRecordOf, Item, Items}
+use Rattle.data_url.specs.Mime.{Parses, Without, is_quote, kept_pairs, plain, unless_empty}
 use Rattle.data_url.specs.Url.{trimmed_text, after, in_path_set, is_tab_or_newline, percent_encoding, without_end}
 use Rattle.data_url.specs.Url.{without_start, without_tabs_and_newlines}
 use Rattle.data_url.proofs.api.{IsBytes, bytes_trimmed, spelled_scheme, after_nil, after_other, before_all}
-use Rattle.data_url.proofs.api.{dropped_keeps, dropped_nil, header_text, suffix_stop}
+use Rattle.data_url.proofs.api.{dropped_keeps, dropped_nil, every_from_all, header_text, suffix_stop}
 use Rattle.data_url_c.specs.Answers.{Shows}
 use Rattle.data_url_c.specs.Steps.{form_of}
-use Rattle.data_url_c.specs.Steps.Bare.{IsBare, IsMedia, IsTypeWord, bare_record, is_bare, record_at, suffix_text}
+use Rattle.data_url_c.specs.Steps.Bare.{IsBare, IsMedia, IsRest, IsWord, bare_record, is_bare, is_bare_value}
+use Rattle.data_url_c.specs.Steps.Bare.{media_record, pairs_of, suffix_text}
 use Rattle.data_url_c.specs.declared.bare.Bare.{Bare}
+use Rattle.data_url_c.specs.declared.bare.Media.{Media}
+use Rattle.data_url_c.specs.declared.bare.Parameter.{Parameter}
 use Rattle.data_url_c.specs.Steps.Opening.{IsReadUrl, tail_after}
 use Rattle.data_url_c.specs.declared.answer.DataUrlAnswer.{DataUrlAnswer}
-use Rattle.data_url_c.proofs.BareLemmas.{is_plain, in_media, all_more, plain_media, media_all, media_plain, cut_media}
-use Rattle.data_url_c.proofs.BareLemmas.{pair_length, media_parts, media_serialised}
+use Rattle.data_url_c.proofs.BareLemmas.{all_more, is_plain, media_plain, media_serialised, parts_are, parts_short}
+use Rattle.data_url_c.proofs.BareLemmas.{plain_word, token_word, value_word}
 use Rattle.data_url_c.proofs.OpenLemmas.{cut_at}
 use Rattle.data_url_c.proofs.ProbeLemmas.{HasScheme, accepted_with, trimmed_front, trimmed_tail}
 
 -- Tests
-
--- a byte other than ';'
-other_than_semicolon : (b : ℕ) → in_media b ≡ true → (b == 59) ≡ false
-other_than_semicolon b h = grind (arith, common_steps, h)
 
 -- no byte of a header is a tab, a newline or a space, or is percent-encoded
 stays_byte : (b : ℕ) → is_plain b ≡ true
@@ -47,27 +48,49 @@ stays_byte b h = (
   grind (arith, common_steps, h),
 )
 
--- a byte of a word is an HTTP token code point
-token_byte : (b : ℕ) → is_bare b ≡ true → is_token b ≡ true
-unfolding is_token
-token_byte b h = grind (arith, common_steps, h)
-
--- it is in lower case
+-- a byte of a type or a name is in lower case
 lower_byte : (b : ℕ) → is_bare b ≡ true → to_ascii_lowercase b ≡ b
 lower_byte b h = grind (arith, common_steps, h)
 
--- a word is in lower case
+-- a byte that is one of a value in lower case is one of a value
+upper_byte : (b : ℕ) → is_bare_value (to_ascii_lowercase b) ≡ true → is_bare_value b ≡ true
+upper_byte b h = grind (arith, common_steps, h)
+
+-- a byte of a type or a name ends no name
+name_byte : (b : ℕ) → is_bare b ≡ true → not (ends_name b) ≡ true
+name_byte b h = grind (arith, common_steps, h)
+
+-- a byte of a value is no ';'
+no_semicolon_byte : (b : ℕ) → is_bare_value b ≡ true → not (is_semicolon b) ≡ true
+no_semicolon_byte b h = grind (arith, common_steps, h)
+
+-- nor is it a quote
+no_quote_byte : (b : ℕ) → is_bare_value b ≡ true → is_quote b ≡ false
+no_quote_byte b h = grind (arith, common_steps, h)
+
+-- it is an HTTP quoted-string token code point
+quotable_byte : (b : ℕ) → is_bare_value b ≡ true → is_quotable b ≡ true
+unfolding is_quotable
+quotable_byte b h = grind (arith, common_steps, h)
+
+-- a byte of a type or a name is no ';' and no HTTP whitespace
+start_byte : (b : ℕ) → is_bare b ≡ true → ((b == 59) ≡ false) × (is_http_whitespace b ≡ false)
+start_byte b h = (grind (arith, common_steps, h), grind (arith, common_steps, h))
+
+-- a type or a name is in lower case
 lower_word : (s : List ℕ) → list_all is_bare s ≡ true → map to_ascii_lowercase s ≡ s
 lower_word [] h = refl
 lower_word (b ∷ s) h =
     let k = and_parts (is_bare b) (list_all is_bare s) h in cc (lower_byte b k.0, lower_word s k.1)
 
--- it is a token text
-token_word : (s : List ℕ) → IsTypeWord s → is_token_text s ≡ true
-token_word [] h = absurd (omega (arith, h.some))
-token_word (b ∷ s) h = all_more is_bare is_token token_byte (b ∷ s) h.all
+-- a text that is a value in lower case has only bytes of a value
+upper_word : (s : List ℕ) → list_all is_bare_value (map to_ascii_lowercase s) ≡ true → list_all is_bare_value s ≡ true
+upper_word [] h = refl
+upper_word (b ∷ s) h =
+    let k = and_parts (is_bare_value (to_ascii_lowercase b)) (list_all is_bare_value (map to_ascii_lowercase s)) h in
+    cc (upper_byte b k.0, upper_word s k.1)
 
--- The media type of a header
+-- The text of a header
 
 -- none of these bytes is another byte
 lacks_all : (c : ℕ) → is_plain c ≡ false → (s : List ℕ) → list_all is_plain s ≡ true → after c s ≡ None
@@ -156,181 +179,316 @@ all_take p zero s h = refl
 all_take p (suc n) [] h = refl
 all_take p (suc n) (b ∷ s) h = let k = and_parts (p b) (list_all p s) h in cc (k.0, all_take p n s k.1)
 
--- and each of the others
-all_drop : (p : ℕ → Bool) (n : ℕ) (s : List ℕ) → list_all p s ≡ true → list_all p (drop n s) ≡ true
-all_drop p zero s h = h
-all_drop p (suc n) [] h = refl
-all_drop p (suc n) (b ∷ s) h = all_drop p n s (and_parts (p b) (list_all p s) h).1
+-- The end of a MIME type
 
--- a text of a media type does not end with ';'
-no_semicolon : (s : List ℕ) → list_all in_media s ≡ true → before_semicolon s ≡ None
-no_semicolon s h =
-    let w = drop (length s - 1) s in
-    let all : list_all in_media w ≡ true = all_drop in_media (length s - 1) s h in
-    elim (cases_Bool (bytes_eq w (codes ";"))) [
-      | inl e ↦ absurd (let same = ap (list_all in_media) ((bytes_eq-Decides w (codes ";")).0 e) in cc (same, all))
+-- the text ends with bytes of a value, after another byte than ';'
+pub record IsEnd (s : List ℕ) : Type 0 where
+  pub front : List ℕ
+  pub mark : ℕ
+  pub last : List ℕ
+  pub joined : s ≡ front ++ mark ∷ last
+  pub is_mark : is_bare_value mark ≡ false
+  pub no_semicolon : (59 == mark) ≡ false
+  pub all : list_all is_bare_value last ≡ true
+
+-- a text of bytes of a value has no other byte
+no_other : (a s : List ℕ) (b : ℕ) → list_all is_bare_value (a ++ b ∷ s) ≡ true → is_bare_value b ≡ false → ⊥
+no_other a s b h e =
+    let others = and_parts (list_all is_bare_value a) (list_all is_bare_value (b ∷ s))
+    (sym (list_all-append is_bare_value a (b ∷ s)) ∙ h) in
+    let byte = and_parts (is_bare_value b) (list_all is_bare_value s) others.1 in cc (byte.0, e)
+
+-- so there is one such byte that only bytes of a value follow
+same_mark : (a front w last : List ℕ) (b mark : ℕ) → a ++ b ∷ w ≡ front ++ mark ∷ last → is_bare_value b ≡ false
+    → is_bare_value mark ≡ false → list_all is_bare_value w ≡ true → list_all is_bare_value last ≡ true → b ≡ mark
+same_mark [] [] w last b mark e f g h k = ap (λ s. get_or s 0 b) e
+same_mark [] (x ∷ front) w last b mark e f g h k =
+    absurd (no_other front last mark (ap (λ s. list_all is_bare_value (drop 1 s)) (sym e) ∙ h) g)
+same_mark (x ∷ a) [] w last b mark e f g h k =
+    absurd (no_other a w b (ap (λ s. list_all is_bare_value (drop 1 s)) e ∙ k) f)
+same_mark (x ∷ a) (y ∷ front) w last b mark e f g h k = same_mark a front w last b mark (ap (drop 1) e) f g h k
+
+-- a type, a slash, a subtype and a parameter end so
+rest_end : (media : Media) (rest : List ℕ) (p : Option Parameter)
+    → media.text.now ≡ media.type_.now ++ 47 ∷ (media.subtype.now ++ rest) → IsWord is_bare media.subtype.now
+    → IsRest rest p → IsEnd media.text.now
+rest_end media rest None e w h = record {
+  front = media.type_.now;
+  mark = 47;
+  last = media.subtype.now;
+  joined = e ∙ ap (λ s. media.type_.now ++ 47 ∷ (media.subtype.now ++ s)) h
+      ∙ ap (λ s. media.type_.now ++ 47 ∷ s) (append-nil media.subtype.now);
+  is_mark = refl;
+  no_semicolon = refl;
+  all = (value_word media.subtype.now w).all;
+}
+rest_end media rest (Some p) e w h =
+    let front = media.subtype.now ++ 59 ∷ p.name.now in
+    let value = p.value.now in
+    let inner : media.subtype.now ++ rest ≡ front ++ 61 ∷ value =
+    ap (λ s. media.subtype.now ++ s) h.text_is
+    ∙ sym (append_assoc media.subtype.now (59 ∷ p.name.now) (61 ∷ value)) in
+    record {
+      front = media.type_.now ++ 47 ∷ front;
+      mark = 61;
+      last = value;
+      joined = e ∙ ap (λ s. media.type_.now ++ 47 ∷ s) inner
+          ∙ sym (append_assoc media.type_.now (47 ∷ front) (61 ∷ value));
+      is_mark = refl;
+      no_semicolon = refl;
+      all = h.value.all;
+    }
+
+-- in its text no ';' comes right before bytes of a value up to its end
+no_cut : (s a w : List ℕ) → IsEnd s → s ≡ a ++ 59 ∷ w → list_all is_bare_value w ≡ true → ⊥
+no_cut s a w h e all =
+    let same = same_mark a h.front w h.last 59 h.mark (sym e ∙ h.joined) refl h.is_mark all h.all in
+    let other = ap (λ m. 59 == m) same in
+    absurd (cc (other, h.no_semicolon))
+
+-- the text before the last byte, if this is a ';'
+semicolon_end : (m : List ℕ) → bytes_eq (drop (length m - 1) m) (codes ";") ≡ true
+    → m ≡ take (length m - 1) m ++ 59 ∷ []
+semicolon_end m h =
+    sym (take-append-drop (length m - 1) m)
+    ∙ ap (λ w. take (length m - 1) m ++ w) ((bytes_eq-Decides (drop (length m - 1) m) (codes ";")).0 h)
+
+-- so such a text has no suffix
+no_suffix : (s : List ℕ) → list_all is_plain s ≡ true → IsEnd s → before_base64 s ≡ None
+unfolding before_base64
+no_suffix s bytes h =
+    let m = take (length s - 6) s in
+    let w = drop (length s - 6) s in
+    let stays : without_end is_space m ≡ m =
+    end_stays is_space (λ b e. (stays_byte b e).3) m (all_take is_plain (length s - 6) s bytes) in
+    elim (cases_Bool (bytes_eq (map to_ascii_lowercase w) (codes "base64"))) [
+      | inl e ↦
+          let word : map to_ascii_lowercase w ≡ codes "base64" =
+          (bytes_eq-Decides (map to_ascii_lowercase w) (codes "base64")).0 e in
+          let all : list_all is_bare_value w ≡ true = upper_word w (ap (list_all is_bare_value) word) in
+          elim (cases_Bool (bytes_eq (drop (length m - 1) m) (codes ";"))) [
+            | inl f ↦
+                let a = take (length m - 1) m in
+                let cut : s ≡ a ++ 59 ∷ w =
+                sym (take-append-drop (length s - 6) s) ∙ ap (λ t. t ++ w) (semicolon_end m f)
+                ∙ append_assoc a (59 ∷ []) w in
+                absurd (no_cut s a w h cut all)
+            | inr f ↦ cc (e, stays, f)
+          ]
       | inr e ↦ cc e
     ]
 
--- nor does a part of it at its front, without the spaces at its end
-no_word_end : (s : List ℕ) (o : Option (List ℕ)) → list_all in_media s ≡ true
-    → ((m : List ℕ) → o ≡ Some m → (n : ℕ) × (m ≡ take n s))
-    → option_and_then (λ m. before_semicolon (without_end is_space m)) o ≡ None
-no_word_end s None h f = refl
-no_word_end s (Some m) h f =
-    let k = f m refl in
-    let all : list_all in_media m ≡ true = ap (list_all in_media) k.1 ∙ all_take in_media k.0 s h in
-    no_semicolon (without_end is_space m) (all_take in_media (length m - suffix_len is_space m) m all)
-
--- a media type has no suffix
-no_suffix : (s : List ℕ) → list_all in_media s ≡ true → before_base64 s ≡ None
-unfolding before_base64
-no_suffix s h = no_word_end s (before_word s) h (λ m e. (length s - 6, grind arith))
-
 -- The record
 
--- a header: a media type, and maybe the suffix
+-- a header: a MIME type, and maybe the suffix
 abbrev header_with : List ℕ → Bool → List ℕ
 header_with media flag = media ++ suffix_text flag
 
 -- each byte is one of a header
-header_plain : (media : List ℕ) (flag : Bool) → list_all in_media media ≡ true
-    → list_all is_plain (header_with media flag) ≡ true
-header_plain media true h =
-    list_all-append is_plain media (codes ";base64") ∙ cc (all_more in_media is_plain plain_media media h)
-header_plain media false h = list_all-append is_plain media [] ∙ cc (all_more in_media is_plain plain_media media h)
+header_plain : (s : List ℕ) (flag : Bool) → list_all is_plain s ≡ true → list_all is_plain (header_with s flag) ≡ true
+header_plain s true h = list_all-append is_plain s (codes ";base64") ∙ cc h
+header_plain s false h = list_all-append is_plain s [] ∙ cc h
 
--- the media type before the suffix, if there is one
+-- the MIME type before the suffix, if there is one
 abbrev media_before : List ℕ → Bool → Option (List ℕ)
-media_before media true = Some media
-media_before media false = None
+media_before s true = Some s
+media_before s false = None
 
 -- the text before the suffix
-before_suffix : (media : List ℕ) (flag : Bool) → list_all in_media media ≡ true
-    → before_base64 (header_with media flag) ≡ media_before media flag
-before_suffix media true h = suffix_there media (all_more in_media is_plain plain_media media h)
-before_suffix media false h = ap before_base64 (append-nil media) ∙ no_suffix media h
+before_suffix : (s : List ℕ) (flag : Bool) → list_all is_plain s ≡ true → IsEnd s
+    → before_base64 (header_with s flag) ≡ media_before s flag
+before_suffix s true h k = suffix_there s h
+before_suffix s false h k = ap before_base64 (append-nil s) ∙ no_suffix s h k
 
 -- it is the same without spaces at both ends of the header
-before_stripped : (media : List ℕ) (flag : Bool) → list_all in_media media ≡ true
-    → before_base64 (stripped_header (header_with media flag)) ≡ media_before media flag
-before_stripped media flag h =
-    ap before_base64 (stripped (header_with media flag) (header_plain media flag h)) ∙ before_suffix media flag h
-
--- a media type does not begin with ';'
-plain_stays : (s : List ℕ) → list_all in_media s ≡ true → with_plain s ≡ s
-plain_stays [] h = refl
-plain_stays (b ∷ s) h =
-    let k = and_parts (in_media b) (list_all in_media s) h in
-    ap (λ v. cond v (codes "text/plain" ++ b ∷ s) (b ∷ s)) (other_than_semicolon b k.0)
+before_stripped : (s : List ℕ) (flag : Bool) → list_all is_plain s ≡ true → IsEnd s
+    → before_base64 (stripped_header (header_with s flag)) ≡ media_before s flag
+before_stripped s flag h k =
+    ap before_base64 (stripped (header_with s flag) (header_plain s flag h)) ∙ before_suffix s flag h k
 
 -- the flag of the header
-flag_is : (media : List ℕ) (flag : Bool) → list_all in_media media ≡ true
-    → has_base64_suffix (header_with media flag) ≡ flag
+flag_is : (s : List ℕ) (flag : Bool) → list_all is_plain s ≡ true → IsEnd s
+    → has_base64_suffix (header_with s flag) ≡ flag
 unfolding has_base64_suffix
-flag_is media true h = ap is_some (before_stripped media true h)
-flag_is media false h = ap is_some (before_stripped media false h)
+flag_is s true h k = ap is_some (before_stripped s true h k)
+flag_is s false h k = ap is_some (before_stripped s false h k)
 
--- the text of the MIME type is the media type
-mime_is : (media : List ℕ) (flag : Bool) → list_all in_media media ≡ true → mime_text (header_with media flag) ≡ media
+-- a text that begins with a type does not begin with ';'
+plain_stays : (type_ s : List ℕ) → IsWord is_bare type_ → with_plain (type_ ++ s) ≡ type_ ++ s
+plain_stays [] s h = absurd (omega (arith, h.some))
+plain_stays (b ∷ t) s h =
+    let k = and_parts (is_bare b) (list_all is_bare t) h.all in
+    ap (λ v. cond v (codes "text/plain" ++ b ∷ (t ++ s)) (b ∷ (t ++ s))) (start_byte b k.0).0
+
+-- the text of the MIME type is the header without the suffix
+mime_is : (s : List ℕ) (flag : Bool) → list_all is_plain s ≡ true → IsEnd s → with_plain s ≡ s
+    → mime_text (header_with s flag) ≡ s
 unfolding mime_text media_of
-mime_is media true h = cc (before_stripped media true h, plain_stays media h)
-mime_is media false h = cc (
-  before_stripped media false h,
-  stripped (header_with media false) (header_plain media false h),
-  append-nil media,
-  plain_stays media h,
+mime_is s true h k stays = cc (before_stripped s true h k, stays)
+mime_is s false h k stays = cc (
+  before_stripped s false h k,
+  stripped (header_with s false) (header_plain s false h),
+  append-nil s,
+  stays,
 )
 
--- a type, a slash and a subtype parse to the record
-parses : (media : List ℕ) (slash : ℕ) → IsMedia media slash → Parses media (record_at media slash)
-parses media slash h =
-    let plain = media_plain media slash h in
+-- Parameters
+
+-- a name does not begin with HTTP whitespace
+name_begins : (s : List ℕ) → IsWord is_bare s → DoesNotBegin is_http_whitespace s
+name_begins [] h = tt
+name_begins (b ∷ s) h = (start_byte b (and_parts (is_bare b) (list_all is_bare s) h.all).0).1
+
+-- a value does not begin with a quote
+value_begins : (s : List ℕ) → IsWord is_bare_value s → DoesNotBegin is_quote s
+value_begins [] h = tt
+value_begins (b ∷ s) h = no_quote_byte b (and_parts (is_bare_value b) (list_all is_bare_value s) h.all).0
+
+-- it is not empty
+value_some : (s : List ℕ) → IsWord is_bare_value s → unless_empty s ≡ Some s
+value_some [] h = absurd (omega (arith, h.some))
+value_some (b ∷ s) h = refl
+
+-- the text after a name gives the value
+gives_value : (s : List ℕ) → IsWord is_bare_value s → GivesValue (61 ∷ s) [] (Some s)
+gives_value s h =
+    let stays : without_end is_http_whitespace s ≡ s =
+    end_stays is_http_whitespace (λ b e. (stays_byte b e).2) s (plain_word s h) in
+    let without : Without is_semicolon s =
+    every_from_all (λ c. not (is_semicolon c)) s
+    (all_more is_bare_value (λ c. not (is_semicolon c)) no_semicolon_byte s h.all) in
+    subst (λ v. GivesValue (61 ∷ s) [] v) (ap unless_empty stays ∙ value_some s h) (plain s without (value_begins s h))
+
+-- the parameter as it is parsed
+abbrev items_of : Option Parameter → List Item
+items_of None = []
+items_of (Some p) = (p.name.now, Some p.value.now) ∷ []
+
+-- the text after the subtype is its text
+rest_items : (rest : List ℕ) (p : Option Parameter) → IsRest rest p → Items rest (items_of p)
+rest_items rest None h = h
+rest_items rest (Some p) h =
+    let name = p.name.now in
+    let text = 59 ∷ (name ++ 61 ∷ p.value.now) in (
+      text,
+      [],
+      h.text_is ∙ sym (append-nil text),
+      record {
+        gap = [];
+        name = name;
+        tail = 61 ∷ p.value.now;
+        joined = refl;
+        in_gap = tt;
+        begins = name_begins name h.name;
+        in_name = every_from_all (λ c. not (ends_name c)) name
+            (all_more is_bare (λ c. not (ends_name c)) name_byte name h.name.all);
+        name_is = sym (lower_word name h.name.all);
+        value_is = gives_value p.value.now h.value;
+      },
+      refl,
+    )
+
+-- it is valid
+rest_kept : (rest : List ℕ) (p : Option Parameter) → IsRest rest p → pairs_of p ≡ kept_pairs (items_of p)
+rest_kept rest None h = refl
+rest_kept rest (Some p) h =
+    let name = token_word p.name.now (value_word p.name.now h.name) in
+    let value = all_more is_bare_value is_quotable quotable_byte p.value.now h.value.all in
+    cc (name, value)
+
+-- the text is empty or begins with ';'
+rest_begins : (rest : List ℕ) (p : Option Parameter) → IsRest rest p → BeginsParameters rest
+rest_begins rest None h = subst BeginsParameters (sym h) tt
+rest_begins rest (Some p) h = subst BeginsParameters (sym h.text_is) refl
+
+-- a MIME type parses to its record
+parses : (media : Media) → IsMedia media → Parses media.text.now (media_record media)
+parses media h =
+    let text = media.text.now in
+    let bytes = media_plain media h in
     let none = λ (b : ℕ) (e : is_plain b ≡ true). (stays_byte b e).2 in
-    let type_ = take slash media in
-    let subtype = drop (slash + 1) media in
     record {
-      type_ = type_;
-      subtype = subtype;
-      parameters = [];
+      type_ = media.type_.now;
+      subtype = media.subtype.now;
+      parameters = h.rest;
       head = record {
         gap = [];
-        joined = ap (without_end is_http_whitespace) (start_stays is_http_whitespace none media plain)
-            ∙ end_stays is_http_whitespace none media plain ∙ cut_media media slash h
-            ∙ ap (λ s. type_ ++ 47 ∷ s) (sym (append-nil subtype));
-        is_type = token_word type_ h.type_;
-        is_subtype = token_word subtype h.subtype;
+        joined = ap (without_end is_http_whitespace) (start_stays is_http_whitespace none text bytes)
+            ∙ end_stays is_http_whitespace none text bytes ∙ h.text_is;
+        is_type = token_word media.type_.now (value_word media.type_.now h.type_);
+        is_subtype = token_word media.subtype.now (value_word media.subtype.now h.subtype);
         in_gap = tt;
-        begins = tt;
+        begins = rest_begins h.rest media.parameter h.parameter;
       };
       record_is = record {
-        items = [];
-        items_are = refl;
-        type_is = sym (lower_word type_ h.type_.all);
-        subtype_is = sym (lower_word subtype h.subtype.all);
-        parameters_are = refl;
+        items = items_of media.parameter;
+        items_are = rest_items h.rest media.parameter h.parameter;
+        type_is = sym (lower_word media.type_.now h.type_.all);
+        subtype_is = sym (lower_word media.subtype.now h.subtype.all);
+        parameters_are = rest_kept h.rest media.parameter h.parameter;
       };
     }
 
 -- The URL
 
 -- the record is short in both forms
-form_small : (in_parts : Bool) (media : List ℕ) (slash : ℕ) → IsMedia media slash → length media ≤ 267
-    → length (form_of in_parts (record_at media slash)) < 2 ^ 63
-form_small true media slash h l =
-    let a = take slash media in
-    let b = drop (slash + 1) media in
-    subst (λ s. length s < 2 ^ 63) (media_parts media slash h)
-    (omega (arith, pair_length a b, length-take slash media, length-drop (slash + 1) media))
-form_small false media slash h l = subst (λ s. length s < 2 ^ 63) (media_serialised media slash h) (omega arith)
+form_small : (in_parts : Bool) (media : Media) → IsMedia media → length media.text.now ≤ 267
+    → length (form_of in_parts (media_record media)) < 2 ^ 63
+form_small true media h l = subst (λ s. length s < 2 ^ 63) (parts_are media h) (omega (arith, parts_short media h))
+form_small false media h l = subst (λ s. length s < 2 ^ 63) (media_serialised media h) (omega arith)
 
 -- the scheme, in lower case
 abbrev scheme : List ℕ
 scheme = codes "data:"
 
--- a URL with such a header has the record of its type and subtype
-read_by : (in_parts : Bool) (media t : List ℕ) (slash : ℕ) (flag : Bool) {old new : List ℕ} {r : DataUrlAnswer}
-    → IsMedia media slash → length media ≤ 267
-    → IsBytes (trimmed_text ((scheme ++ header_with media flag) ++ 44 ∷ t))
-    → Shows 0 (form_of in_parts (record_at media slash)) old new r
-    → IsReadUrl (form_of in_parts) ((scheme ++ header_with media flag) ++ 44 ∷ t) (trimmed_tail t) old new r flag
-read_by in_parts media t slash flag h l b shown =
-    let header = header_with media flag in
-    let all = media_all media slash h in
-    let plain = header_plain media flag all in
+-- a URL with such a header has its record
+read_by : (in_parts : Bool) (media : Media) (t : List ℕ) (flag : Bool) {old new : List ℕ} {r : DataUrlAnswer}
+    → IsMedia media → length media.text.now ≤ 267
+    → IsBytes (trimmed_text ((scheme ++ header_with media.text.now flag) ++ 44 ∷ t))
+    → Shows 0 (form_of in_parts (media_record media)) old new r
+    → IsReadUrl (form_of in_parts) ((scheme ++ header_with media.text.now flag) ++ 44 ∷ t) (trimmed_tail t) old new r
+    flag
+read_by in_parts media t flag h l b shown =
+    let text = media.text.now in
+    let header = header_with text flag in
+    let bytes = media_plain media h in
+    let end = rest_end media h.rest media.parameter h.text_is h.subtype h.parameter in
+    let all = header_plain text flag bytes in
     let s : HasScheme (trimmed_front (scheme ++ header)) =
     record { scheme = scheme; rest = header; joined = refl; spelled = spelled_scheme scheme refl } in
-    let comma = lacks_all 44 refl header plain in
-    let with = accepted_with (scheme ++ header) t s comma (lacks_all 35 refl header plain) b in
-    let text = text_stays header plain in
-    let mime = mime_is media flag all in
-    let same = flag_is media flag all in
+    let comma = lacks_all 44 refl header all in
+    let with = accepted_with (scheme ++ header) t s comma (lacks_all 35 refl header all) b in
+    let same_text = text_stays header all in
+    let stays = plain_stays media.type_.now (47 ∷ (media.subtype.now ++ h.rest)) h.type_ in
+    let begins : with_plain text ≡ text = ap with_plain h.text_is ∙ stays ∙ sym h.text_is in
+    let mime = mime_is text flag bytes end begins in
+    let same = flag_is text flag bytes end in
     record {
       header = header;
-      mime = record_at media slash;
+      mime = media_record media;
       fragment = with.fragment_is;
-      header_is = with.header_is ∙ ap Some text;
-      record_is = subst (λ m. IsRecordOf m (record_at media slash)) (sym mime) (inl (parses media slash h));
-      small = form_small in_parts media slash h l;
+      header_is = with.header_is ∙ ap Some same_text;
+      record_is = subst (λ m. IsRecordOf m (media_record media)) (sym mime) (inl (parses media h));
+      small = form_small in_parts media h l;
       shown = shown;
       flag_is = sym same;
       tail_is = with.tail_is;
-      staged_is = with.staged_is ∙ cc (text, same);
+      staged_is = with.staged_is ∙ cc (same_text, same);
     }
 
--- a text whose header is written as it is has the record of its type and subtype
+-- a text whose header is written as it is has its record
 pub bare_read : (in_parts : Bool) (x : List ℕ) (comma : ℕ) (bare : Bare) {old new : List ℕ} {r : DataUrlAnswer}
     → ((i : ℕ) → get_or x i 0 < 256) → position (λ b. b == 44) x ≡ Some comma → IsBare (take comma x) bare
     → Shows 0 (form_of in_parts (bare_record bare)) old new r
     → IsReadUrl (form_of in_parts) x (tail_after x comma) old new r bare.is_base64
 bare_read in_parts x comma bare {old} {new} {r} b p h shown =
-    let media = bare.media.now in
+    let text = bare.media.text.now in
     let flag = bare.is_base64 in
     let t = drop (comma + 1) x in
-    let is : x ≡ (scheme ++ header_with media flag) ++ 44 ∷ t =
+    let is : x ≡ (scheme ++ header_with text flag) ++ 44 ∷ t =
     cut_at x comma p ∙ ap (λ a. a ++ 44 ∷ t) h.front_is in
     let bytes = subst (λ y. IsBytes (trimmed_text y)) is (bytes_trimmed x b) in
     let size = ap length h.front_is in
-    let few : length media ≤ 267 = omega (arith, size, h.short, length-append media (suffix_text flag)) in
+    let few : length text ≤ 267 = omega (arith, size, h.short, length-append text (suffix_text flag)) in
     subst (λ y. IsReadUrl (form_of in_parts) y (trimmed_tail t) old new r flag) (sym is)
-    (read_by in_parts media t bare.slash flag h.is_media few bytes shown)
+    (read_by in_parts bare.media t flag h.is_media few bytes shown)
