@@ -347,7 +347,8 @@ fn long_types() {
     }
 }
 
-/// A long value of the only parameter, around the same lengths.
+/// A long value of the only parameter, around the lengths from which the parts are in a vector, and from which the header is
+/// read as any other.
 #[test]
 fn long_values() {
     for len in 215..262 {

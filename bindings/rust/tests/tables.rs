@@ -22,7 +22,7 @@ const EXCLAMATION: &str = "base64 not valid: symbol with codepoint 33 not expect
 /// Texts, their printed records, the bytes of their bodies before the first fault, and the message of the error, or `#` and
 /// the fragment, or nothing.
 #[rustfmt::skip]
-const URLS: [[&str; 4]; 86] = [
+const URLS: [[&str; 4]; 88] = [
     ["data:,Hello%20World!", DEFAULT, "Hello World!", ""],
     ["\0 DA\tTA:\n,x \u{1f}", DEFAULT, "x", ""],
     ["da ta:,x", "", "", NO_SCHEME],
@@ -109,6 +109,8 @@ const URLS: [[&str; 4]; 86] = [
     ["data:a/b;+-.9=_Z+-.9;base64,QQ", "a/b;+-.9=_Z+-.9", "A", ""],
     ["data:a/;c=d,x", DEFAULT, "x", ""],
     ["data:/b;c=d,x", DEFAULT, "x", ""],
+    ["data:a/b;c=d!e;base64,QQ", "a/b;c=d!e", "A", ""],
+    ["data:a_b/c;d=e,QQ", "a_b/c;d=e", "QQ", ""],
 ];
 
 /// Texts, and how their records are printed, or the message for a text that has no record.

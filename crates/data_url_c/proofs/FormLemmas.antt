@@ -17,7 +17,7 @@ use Rattle.data_url.specs.MimeType.{code_points, pair_of, record_of}
 use Rattle.data_url.specs.declared.mime.Mime.{Mime}
 use Rattle.data_url.proofs.api.{ascii_all, on_literals}
 use Rattle.data_url_c.specs.Forms.{part, parts_of, parts_of_pair, serialised}
-use Rattle.data_url_c.specs.Answers.{Answers}
+use Rattle.data_url_c.specs.Answers.{Answers, Shows}
 use Rattle.data_url_c.specs.Gives.{GivesTypeInParts}
 use Rattle.data_url_c.specs.Parts.{WritesFront}
 use Rattle.data_url_c.specs.Steps.{Writes, WritesForm, form_of}
@@ -125,6 +125,27 @@ part_length text = omega arith
 pub put_writes : (text : List ℕ) {old new : List ℕ} {len len' : ℕ} → len' ≡ len + 8 + length text
     → new ≡ take len old ++ (part text ++ drop len' old) → Writes (part text) old len new len'
 put_writes text e f = record { fits = λ l. (omega (arith, e, part_length text), f) }
+
+-- a text of ASCII is encoded as it is, as a part
+pub ascii_part : (s : List ℕ) → IsAscii s → part s ≡ part (encode_utf8_all s)
+ascii_part s h = ap part (ascii_encoded s h)
+
+-- a text that fits an output and was written to its start is shown
+pub shows_written : (text : List ℕ) {old new : List ℕ} {len len' : ℕ} → len ≡ length text → len ≤ length old
+    → Writes text old 0 new len' → Shows 0 text old new (record { status = 0; len = len })
+shows_written text {old} {new} {len} {len'} size fits w =
+    let written = w.fits (omega (arith, size, fits)) in
+    record {
+      len = size;
+      fits = λ l. (refl, written.1 ∙ ap (λ n. text ++ drop n old) (omega (arith, written.0)));
+      is_too_small = λ l. absurd (omega (arith, size, fits, l));
+    }
+
+-- if a text does not fit an output, the output does not change
+pub shows_too_long : (text : List ℕ) {old : List ℕ} {len : ℕ} → len ≡ length text → length old < len
+    → Shows 0 text old old (record { status = 5; len = len })
+shows_too_long text size l =
+    record { len = size; fits = λ f. absurd (omega (arith, size, f, l)); is_too_small = λ m. (refl, refl) }
 
 -- what is read of a record is no longer than all its parts
 split_room : (m : Mime) (read : List ℕ) (rest : List (String Global × String Global)) → IsSplit m read rest
@@ -292,10 +313,6 @@ pub default_serialised : codes "text/plain;charset=US-ASCII" ≡ serialised defa
 unfolding on_literals
 default_serialised =
     ascii_encoded (codes "text/plain;charset=US-ASCII") (ascii_all (codes "text/plain;charset=US-ASCII") refl)
-
--- a text of ASCII, as a part
-ascii_part : (s : List ℕ) → IsAscii s → part s ≡ part (encode_utf8_all s)
-ascii_part s h = ap part (ascii_encoded s h)
 
 -- the parts of the default record
 pub default_parts : part (codes "text") ++ (part (codes "plain") ++ (part (codes "charset") ++ part (codes "US-ASCII")))

@@ -1,26 +1,26 @@
-//! Headers that are a type and a subtype in lower case, with at most one parameter whose value needs no quotes, and with or without
-//! `;base64`: they are written as they are.
+//! Headers whose type and subtype have only lower-case letters, digits, `+`, `-` and `.`, with at most one parameter whose
+//! value has only letters, digits, `+`, `-`, `.` and `_`, and with or without `;base64`: their MIME type is written as it is.
 
-ghost use Rattle.std.specs.Prelude.{◌≡◌, ◌+◌, ◌++◌, ◌<◌, ◌≤◌, ◌^◌, ◌∷◌, IfSome, IsTrue, length};
+ghost use Rattle.std.specs.Prelude.{◌≡◌, ◌+◌, ◌++◌, ◌<◌, ◌≤◌, ◌^◌, ◌∷◌, ◌↔◌, IfSome, IsTrue, Some, length};
 ghost use Rattle.std.specs.Prelude.{take};
 ghost use Rattle.std.specs.List.{prefix_len};
 ghost use Rattle.data_url_c.specs.Answers.{Shows};
 ghost use Rattle.data_url_c.specs.Forms.{parts_of};
 ghost use Rattle.data_url_c.specs.Steps.{Writes, form_of};
-ghost use Rattle.data_url_c.specs.Steps.Bare.{IsBare, IsBareParameter, IsMedia, IsWord};
-ghost use Rattle.data_url_c.specs.Steps.Bare.{bare_record, is_bare, is_bare_value, media_record};
-ghost use Rattle.data_url_c.specs.Steps.Bare.{parameter_parts, suffix_text};
+ghost use Rattle.data_url_c.specs.Steps.Bare.{IsBare, IsBareParameter, IsBareType, IsWord};
+ghost use Rattle.data_url_c.specs.Steps.Bare.{bare_record, is_value_byte, is_word_byte, mime_type_record};
+ghost use Rattle.data_url_c.specs.Steps.Bare.{parameter_parts, parameter_text, suffix_text};
 
 use crate::answer::{DONE, DataUrlAnswer, OUTPUT_TOO_SMALL, show};
 use crate::flag::{SCHEME, SUFFIX};
 use crate::form::{LENGTH, put_part};
 
 /// The most bytes before the comma: `data:`, a type and a subtype of at most 127 bytes each
-/// ([RFC 6838, section 4.2](https://www.rfc-editor.org/rfc/rfc6838#section-4.2)), the slash, and `;base64`. A parameter counts too.
-/// A longer header is read as any other.
+/// ([RFC 6838, section 4.2](https://www.rfc-editor.org/rfc/rfc6838#section-4.2)), the slash, and `;base64`. A header with a
+/// parameter has no more either. A longer header is read as any other.
 const LONGEST: usize = 267;
 
-/// A parameter whose name is in lower case, and whose value needs no quotes.
+/// A parameter that is written as it is.
 #[derive(Clone, Copy)]
 struct Parameter<'a> {
     /// The text between `;` and `=`.
@@ -31,7 +31,7 @@ struct Parameter<'a> {
 
 /// A MIME type that is written as it is.
 #[derive(Clone, Copy)]
-struct Media<'a> {
+struct MimeType<'a> {
     /// The whole text.
     text: &'a [u8],
     /// The text before the slash.
@@ -42,19 +42,19 @@ struct Media<'a> {
     parameter: Option<Parameter<'a>>,
 }
 
-/// A header that is written as it is.
+/// A header whose MIME type is written as it is.
 #[derive(Clone, Copy)]
 pub(crate) struct Bare<'a> {
     /// The MIME type.
-    media: Media<'a>,
+    mime_type: MimeType<'a>,
     /// Whether `;base64` follows.
     pub(crate) is_base64: bool,
 }
 
 /// Returns whether a byte is a lower-case letter, a digit, `+`, `-` or `.`.
 #[inline(always)]
-fn is_bare(byte: u8) -> bool
-    ensures { result ≡ is_bare byte }
+fn is_word_byte(byte: u8) -> bool
+    ensures { result ≡ is_word_byte byte }
 {
     if byte >= b'a' {
         return byte <= b'z';
@@ -64,10 +64,10 @@ fn is_bare(byte: u8) -> bool
 
 /// Returns whether a byte is a letter, a digit, `+`, `-`, `.` or `_`.
 #[inline(always)]
-fn is_bare_value(byte: u8) -> bool
-    ensures { result ≡ is_bare_value byte }
+fn is_value_byte(byte: u8) -> bool
+    ensures { result ≡ is_value_byte byte }
 {
-    is_bare(byte) || matches!(byte, b'A'..=b'Z' | b'_')
+    is_word_byte(byte) || matches!(byte, b'A'..=b'Z' | b'_')
 }
 
 /// Returns a header without `;base64` at its end, and whether it was there.
@@ -76,7 +76,7 @@ fn without_suffix(header: &[u8]) -> (&[u8], bool)
     ensures { header.now ≡ result.0.now ++ suffix_text result.1 }
 {
     match header.strip_suffix(&SUFFIX) {
-        Some(media) => (media, true),
+        Some(mime_type) => (mime_type, true),
         None => (header, false),
     }
 }
@@ -84,37 +84,39 @@ fn without_suffix(header: &[u8]) -> (&[u8], bool)
 /// Returns how many bytes at the start are of a type, a subtype or a name.
 #[inline(always)]
 fn word_len(bytes: &[u8]) -> usize
-    ensures { result ≡ prefix_len is_bare bytes.now }
+    ensures { result ≡ prefix_len is_word_byte bytes.now }
 {
+    // A loop: the closure of `position` was not inlined here, and took up to 14 instructions more.
     for (place, byte) in bytes.iter().enumerate() {
-        if !is_bare(*byte) {
+        if !is_word_byte(*byte) {
             return place;
         }
     }
     bytes.len()
 }
 
-/// Returns the type or name at the start of a text, and the text after the byte that ends it. Returns None if there is none, or
-/// another byte ends it.
+/// Splits a text at the byte after the type or name that it begins with. Returns None if it begins with none, or if that byte
+/// is missing or is not `mark`.
 #[inline(always)]
-fn word_before(text: &[u8], end: u8) -> Option<(&[u8], &[u8])>
-    ensures joined { IfSome result (λ cut. text.now ≡ cut.0.now ++ end ∷ cut.1.now) }
-    ensures word { IfSome result (λ cut. IsWord is_bare cut.0.now) }
+fn word_before(text: &[u8], mark: u8) -> Option<(&[u8], &[u8])>
+    ensures joined { IfSome result (λ cut. text.now ≡ cut.0.now ++ mark ∷ cut.1.now) }
+    ensures word { IfSome result (λ cut. IsWord is_word_byte cut.0.now) }
 {
     let len = word_len(text);
-    if len == 0 || len >= text.len() || text[len] != end {
+    if len == 0 || len >= text.len() || text[len] != mark {
         return None;
     }
     Some((&text[..len], &text[len + 1..]))
 }
 
-/// Returns whether a text is a value: it is not empty, and each byte is one of a value.
+/// Returns whether a text is not empty, and each byte is a letter, a digit, `+`, `-`, `.` or `_`.
 #[inline(always)]
 fn is_value(text: &[u8]) -> bool
-    ensures { IsTrue result → IsWord is_bare_value text.now }
+    ensures { IsTrue result ↔ IsWord is_value_byte text.now }
 {
+    // A loop, as in `word_len`.
     for byte in text {
-        if !is_bare_value(*byte) {
+        if !is_value_byte(*byte) {
             return false;
         }
     }
@@ -124,7 +126,8 @@ fn is_value(text: &[u8]) -> bool
 /// Returns the parameter of a text, if the text is one that is written as it is.
 #[inline(always)]
 fn parameter_of(text: &[u8]) -> Option<Parameter<'_>>
-    ensures { IfSome result (IsBareParameter text.now) }
+    ensures text { IfSome result (λ parameter. text.now ≡ parameter_text (Some parameter)) }
+    ensures parameter { IfSome result IsBareParameter }
 {
     let (name, value) = word_before(text.strip_prefix(b";")?, b'=')?;
     if !is_value(value) {
@@ -135,12 +138,12 @@ fn parameter_of(text: &[u8]) -> Option<Parameter<'_>>
 
 /// Returns the MIME type of a text, if it is written as it is.
 #[inline(always)]
-fn media_of(text: &[u8]) -> Option<Media<'_>>
-    ensures text { IfSome result (λ media. media.text.now ≡ text.now) }
-    ensures media { IfSome result IsMedia }
+fn mime_type_of(text: &[u8]) -> Option<MimeType<'_>>
+    ensures text { IfSome result (λ mime_type. mime_type.text.now ≡ text.now) }
+    ensures mime_type { IfSome result IsBareType }
 {
-    // A header whose last byte is in no type and no value, as a quote, is seen at once.
-    if !is_bare_value(*text.last()?) {
+    // A header whose last byte ends no type and no value, such as a quote, is left to the other readers at once.
+    if !is_value_byte(*text.last()?) {
         return None;
     }
     let (type_, rest) = word_before(text, b'/')?;
@@ -148,24 +151,20 @@ fn media_of(text: &[u8]) -> Option<Media<'_>>
     if subtype.is_empty() {
         return None;
     }
-    if rest.is_empty() {
-        return Some(Media {
-            text,
-            type_,
-            subtype,
-            parameter: None,
-        });
-    }
-    let parameter = parameter_of(rest)?;
-    Some(Media {
+    let parameter = if rest.is_empty() {
+        None
+    } else {
+        Some(parameter_of(rest)?)
+    };
+    Some(MimeType {
         text,
         type_,
         subtype,
-        parameter: Some(parameter),
+        parameter,
     })
 }
 
-/// Returns the header of a text, if it is written as it is and comes after `data:` in lower case.
+/// Returns the header of a text, if it comes after `data:` in lower case and its MIME type is written as it is.
 pub(crate) fn bare_of(text: &str, comma: usize) -> Option<Bare<'_>>
     requires { comma < length text.now }
     ensures { IfSome result (IsBare (take comma text.now)) }
@@ -174,12 +173,15 @@ pub(crate) fn bare_of(text: &str, comma: usize) -> Option<Bare<'_>>
         return None;
     }
     let header = text.as_bytes()[..comma].strip_prefix(SCHEME)?;
-    let (media, is_base64) = without_suffix(header);
-    let media = media_of(media)?;
-    Some(Bare { media, is_base64 })
+    let (mime_type, is_base64) = without_suffix(header);
+    let mime_type = mime_type_of(mime_type)?;
+    Some(Bare {
+        mime_type,
+        is_base64,
+    })
 }
 
-/// Returns how many bytes a parameter has in parts.
+/// Returns how many bytes a parameter has in parts: 0 if there is none.
 #[inline(always)]
 fn parameter_len(parameter: Option<Parameter<'_>>) -> usize
     requires { length (parameter_parts parameter) < 2 ^ 64 }
@@ -191,7 +193,7 @@ fn parameter_len(parameter: Option<Parameter<'_>>) -> usize
     }
 }
 
-/// Writes a parameter in parts to an output that has room for it, at a place. Returns the place after it.
+/// Writes a parameter, if there is one, in parts to an output that has room for it, at a place. Returns the place after it.
 #[inline(always)]
 fn put_parameter(out: &mut [u8], at: usize, parameter: Option<Parameter<'_>>) -> usize
     requires { at + length (parameter_parts parameter) ≤ length out.old }
@@ -207,30 +209,33 @@ fn put_parameter(out: &mut [u8], at: usize, parameter: Option<Parameter<'_>>) ->
 }
 
 /// Writes a MIME type in parts to the start of an output.
-fn show_parts(media: Media<'_>, out: &mut [u8]) -> DataUrlAnswer
-    requires { IsMedia media }
-    ensures { Shows 0 (parts_of (media_record media.entry)) out.old out.new result }
+fn show_bare_parts(mime_type: MimeType<'_>, out: &mut [u8]) -> DataUrlAnswer
+    requires { IsBareType mime_type }
+    ensures { Shows 0 (parts_of (mime_type_record mime_type.entry)) out.old out.new result }
 {
-    let len = 2 * LENGTH + media.type_.len() + media.subtype.len() + parameter_len(media.parameter);
+    let len = 2 * LENGTH
+        + mime_type.type_.len()
+        + mime_type.subtype.len()
+        + parameter_len(mime_type.parameter);
     if len > out.len() {
         return DataUrlAnswer {
             status: OUTPUT_TOO_SMALL,
             len,
         };
     }
-    let end = put_part(out, 0, media.type_);
-    let end = put_part(out, end, media.subtype);
-    put_parameter(out, end, media.parameter);
+    let end = put_part(out, 0, mime_type.type_);
+    let end = put_part(out, end, mime_type.subtype);
+    put_parameter(out, end, mime_type.parameter);
     DataUrlAnswer { status: DONE, len }
 }
 
 /// Writes the MIME type of a header to the start of an output, in parts or serialised.
 pub(crate) fn show_bare(bare: Bare<'_>, in_parts: bool, out: &mut [u8]) -> DataUrlAnswer
-    requires { IsMedia bare.media }
+    requires { IsBareType bare.mime_type }
     ensures { Shows 0 (form_of in_parts (bare_record bare.entry)) out.old out.new result }
 {
     if in_parts {
-        return show_parts(bare.media, out);
+        return show_bare_parts(bare.mime_type, out);
     }
-    show(DONE, bare.media.text, out)
+    show(DONE, bare.mime_type.text, out)
 }

@@ -95,7 +95,7 @@ impl<'a> Source<'a> {
         }
     }
 
-    /// Does what `digit_by_loop` does, through a text of its own, so that the walk's can stay in registers.
+    /// Does what `digit_by_loop` does, through a `Source` of its own, so that the walk's `Source` can stay in registers.
     #[inline(always)]
     fn digit_further(&mut self, place: usize) -> Option<(u8, usize)>
         requires { place ≤ length self.old.text.now }

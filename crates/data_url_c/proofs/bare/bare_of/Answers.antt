@@ -12,7 +12,7 @@ returns c =
       front_is = ap (take c.args.comma) (sym c.as_bytes.ensures.value)
           ∙ strip_prefix_is Decides-eqb front (codes "data:") (Some c.in_ok-header.header) c.in_ok-header.ensures.cases
           ∙ ap (λ h. codes "data:" ++ h) (c.without_suffix-is_base64.ensures
-          ∙ ap (λ s. s ++ suffix) (sym c.in_ok-media.ensures.text));
+          ∙ ap (λ s. s ++ suffix) (sym c.in_ok-mime_type.ensures.text));
       short = search rules;
-      is_media = c.in_ok-media.ensures.media;
+      is_type = c.in_ok-mime_type.ensures.mime_type;
     }
