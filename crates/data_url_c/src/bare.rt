@@ -86,7 +86,7 @@ fn without_suffix(header: &[u8]) -> (&[u8], bool)
 fn word_len(bytes: &[u8]) -> usize
     ensures { result ≡ prefix_len is_word_byte bytes.now }
 {
-    // A loop: the closure of `position` was not inlined here, and took up to 14 instructions more.
+    // A loop: `take_while` with `count` was not inlined here, and took up to 14 instructions more.
     for (place, byte) in bytes.iter().enumerate() {
         if !is_word_byte(*byte) {
             return place;
