@@ -252,27 +252,28 @@ symbols_end [] zero = omega arith
 symbols_end [] (suc after) = omega arith
 symbols_end (b ∷ text) after = grind (arith, symbols_end text after)
 
--- the groups that a text with fewer than sixteen bytes begins with are held, if it was decoded with zeros after it
-pub last_fills : (text old new bytes row : List ℕ) (n m after : ℕ) → row ≡ text ++ replicate after 0
-    → length row ≡ 16 → m ≡ prefix_len is_symbol row / 4 → n + 16 ≤ length old
-    → take (n + 16) new ≡ take n old ++ bytes → DecodesFront row bytes
-    → (4 * m ≤ length text) × Fills (take n old) (take (4 * m) text) (take (n + 3 * m) new)
-last_fills text old new bytes row n m after is long groups room put decodes =
-    let ends = symbols_end text after in
-    let size = ap (prefix_len is_symbol) is in
-    let few : 4 * m ≤ length text = omega (arith, ends, size, groups) in
-    let most = prefix_len-le-length is_symbol row in
-    let front : take (4 * m) row ≡ take (4 * m) text =
-    ap (take (4 * m)) is ∙ take-append-le (4 * m) text (replicate after 0) few in
-    let passed = prefix_passes is_symbol row in
-    let within : 4 * m ≤ prefix_len is_symbol row = omega (arith, groups) in
-    let all = all_before is_symbol row (prefix_len is_symbol row) (4 * m) passed within in
-    let k : 4 * m + 0 ≡ 4 * m = omega arith in
-    let are = front_symbols row text m 0 front all refl in (
-      few,
-      row_fills text old new bytes row n m (4 * m) room put decodes (omega (arith, groups, most, long)) long (rw k
-          at are),
+-- a text begins with the groups of a row that has some of its first bytes and then zeros
+pub groups_within : (text row : List ℕ) (n m after : ℕ) → row ≡ take n text ++ replicate after 0
+    → m ≡ 4 * (prefix_len is_symbol row / 4) → (m ≤ length text) × (take m row ≡ take m text)
+groups_within text row n m after is groups =
+    let front = take n text in
+    let size = length-take n text in
+    let few : m ≤ length front = omega (arith, symbols_end front after, ap (prefix_len is_symbol) is, groups) in (
+      omega (arith, few, size),
+      ap (take m) is ∙ take-append-le m front (replicate after 0) few ∙ take-take m n text (omega (arith, few, size)),
     )
+
+-- the groups that a row begins with are held, if it was decoded
+pub front_fills : (old new bytes row : List ℕ) (n m : ℕ) → length row ≡ 16 → m ≡ prefix_len is_symbol row / 4
+    → n + 16 ≤ length old → take (n + 16) new ≡ take n old ++ bytes → DecodesFront row bytes
+    → Fills (take n old) (take (4 * m) row) (take (n + 3 * m) new)
+front_fills old new bytes row n m long groups room put decodes =
+    let within : 4 * m ≤ prefix_len is_symbol row = omega (arith, groups) in
+    let all = all_before is_symbol row (prefix_len is_symbol row) (4 * m) (prefix_passes is_symbol row) within in
+    let k : 4 * m + 0 ≡ 4 * m = omega arith in
+    let are = front_symbols row row m 0 refl all refl in
+    row_fills row old new bytes row n m (4 * m) room put decodes
+    (omega (arith, groups, prefix_len-le-length is_symbol row, long)) long (rw k at are)
 
 -- all that was read
 pub leaves_read : {held text rest held' : List ℕ} → Leaves held text rest held'
@@ -281,19 +282,6 @@ leaves_read {text = text} {rest = rest} l =
     let size = ap length l.text_is ∙ length-append l.front rest in
     let n : length text - length rest ≡ length l.front = omega (arith, size) in
     (omega (arith, size), rw (n, l.text_is, take_at l.front rest (length l.front) refl) l.fills)
-
--- one group
-pub fill_one : (held text bytes : List ℕ) → 4 ≤ length text → is_symbol (get_or text 0 0) ≡ true
-    → is_symbol (get_or text 1 0) ≡ true → is_symbol (get_or text 2 0) ≡ true → is_symbol (get_or text 3 0) ≡ true
-    → bytes ≡ group_bytes (group_number (symbol_value (get_or text 0 0)) (symbol_value (get_or text 1 0))
-    (symbol_value (get_or text 2 0)) (symbol_value (get_or text 3 0)))
-    → Fills held (take 4 text) (held ++ bytes)
-unfolding groups
-fill_one held [] bytes h i j k l e = absurd (omega arith)
-fill_one held (p ∷ []) bytes h i j k l e = absurd (omega arith)
-fill_one held (p ∷ q ∷ []) bytes h i j k l e = absurd (omega arith)
-fill_one held (p ∷ q ∷ r ∷ []) bytes h i j k l e = absurd (omega arith)
-fill_one held (p ∷ q ∷ r ∷ s ∷ rest) bytes h i j k l e = grind arith
 
 -- A text that is fed in two parts.
 

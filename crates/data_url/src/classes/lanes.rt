@@ -1,6 +1,6 @@
 //! Rows of sixteen bytes: how they are read and written, and the classes of their bytes. Blocks of 64 bytes are tested alike.
 
-ghost use Rattle.std.specs.Prelude.{◌≡◌, ◌+◌, ◌-◌, ◌++◌, ◌≤◌, drop, length, map, not, replicate, take};
+ghost use Rattle.std.specs.Prelude.{◌≡◌, ◌+◌, ◌++◌, ◌<◌, ◌≤◌, drop, length, map, not, replicate, take};
 ghost use Rattle.std.specs.{List.{list_all}, Simd.Lanes.{mask_l}};
 ghost use Rattle.data_url.specs.Steps.Classes.{AreOf, is_marked, looked_up};
 
@@ -35,21 +35,8 @@ pub(crate) fn put(bytes: &mut [u8], at: usize, row: u8x16)
     row.copy_to_slice(&mut bytes[at..]);
 }
 
-/// The places in a row, and then sixteen numbers that are places in no row.
-const PLACES: [u8; 32] = [
-    0, 1, 2, 3, 4, 5, 6, 7, 8, 9, 10, 11, 12, 13, 14, 15, 128, 128, 128, 128, 128, 128, 128, 128,
-    128, 128, 128, 128, 128, 128, 128, 128,
-];
-
-/// Returns the last bytes of a text, and then a number of zeros: sixteen bytes together.
-#[inline(always)]
-pub(crate) fn last_row(text: &[u8], zeros: usize) -> u8x16
-    requires long { 16 ≤ length text.now }
-    requires few { zeros ≤ 16 }
-    ensures { result ≡ drop (length text.now + zeros - 16) text.now ++ replicate zeros 0 }
-{
-    row(text, text.len() - 16).swizzle_dyn(row(&PLACES, zeros))
-}
+/// The places in a row.
+const PLACES: [u8; 16] = [0, 1, 2, 3, 4, 5, 6, 7, 8, 9, 10, 11, 12, 13, 14, 15];
 
 /// Returns the first `at` bytes of a row, and then those of another one from there on.
 #[inline(always)]
@@ -60,6 +47,24 @@ pub(crate) fn spliced(first: u8x16, second: u8x16, at: usize) -> u8x16
     row(&PLACES, 0)
         .simd_lt(u8x16::splat(at as u8))
         .select(first, second)
+}
+
+/// The places in a quarter of a row, four times, and those in half a row, twice.
+const QUARTERS: [usize; 16] = [0, 1, 2, 3, 0, 1, 2, 3, 0, 1, 2, 3, 0, 1, 2, 3];
+const HALVES: [usize; 16] = [0, 1, 2, 3, 4, 5, 6, 7, 0, 1, 2, 3, 4, 5, 6, 7];
+
+/// Returns the first eight bytes of a text, or four if it has fewer than eight, and then zeros: sixteen bytes together.
+#[inline(always)]
+pub(crate) fn first_row(text: &[u8]) -> u8x16
+    requires { 4 ≤ length text.now }
+    ensures four { length text.now < 8 → result ≡ take 4 text.now ++ replicate 12 0 }
+    ensures eight { 8 ≤ length text.now → result ≡ take 8 text.now ++ replicate 8 0 }
+{
+    let zeros = u8x16::splat(0);
+    if text.len() < 8 {
+        return spliced(u8x4::from_slice(text).swizzle(QUARTERS), zeros, 4);
+    }
+    spliced(u8x8::from_slice(text).swizzle(HALVES), zeros, 8)
 }
 
 /// The places in a row, four times.
@@ -89,24 +94,14 @@ fn looked_up(others: &[u8], block: u8x64) -> u8x64
     low & high
 }
 
-/// Looks up the bytes of a row, as `looked_up` does those of a block.
-#[inline(always)]
-fn looked_up_in_row(others: &[u8], row: u8x16) -> u8x16
-    requires { 16 ≤ length others.now }
-    ensures { result ≡ map (looked_up others.now) row }
-{
-    looked_up(others, repeated(row)).extract::<0, 16>()
-}
-
 /// Returns a bit for each byte of a row, which is set where the byte may be outside a class.
 #[inline(always)]
 pub(crate) fn marks(others: &[u8], row: u8x16) -> u64
     requires { 16 ≤ length others.now }
     ensures { result ≡ mask_l (map (is_marked others.now) row) }
 {
-    looked_up_in_row(others, row)
-        .simd_ne(u8x16::splat(0))
-        .to_bitmask()
+    let found = looked_up(others, repeated(row)).extract::<0, 16>();
+    found.simd_ne(u8x16::splat(0)).to_bitmask()
 }
 
 /// Whether no byte of a block is marked. As a test for a branch, this takes fewer instructions than `marks`.

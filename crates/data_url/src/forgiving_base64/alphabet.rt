@@ -147,12 +147,17 @@ pub(crate) fn decode_row(bytes: u8x16) -> u8x16
     bytes_of(numbers_of(values_of(repeated(bytes)))).extract::<0, 16>()
 }
 
-/// The places of the first twelve bytes of each row, and then places without meaning.
-const TWELVES: [usize; 64] = [
-    0, 1, 2, 3, 4, 5, 6, 7, 8, 9, 10, 11, 16, 17, 18, 19, 20, 21, 22, 23, 24, 25, 26, 27, 32, 33,
-    34, 35, 36, 37, 38, 39, 40, 41, 42, 43, 48, 49, 50, 51, 52, 53, 54, 55, 56, 57, 58, 59, 63, 63,
-    63, 63, 63, 63, 63, 63, 63, 63, 63, 63, 63, 63, 63, 63,
-];
+/// The places of the first three quarters of each row, and then places without meaning.
+const TWELVES: [usize; 16] = [0, 1, 2, 4, 5, 6, 8, 9, 10, 12, 13, 14, 15, 15, 15, 15];
+
+/// The first twelve bytes of each row of a block, and then bytes without meaning.
+#[inline(always)]
+fn twelves_of(bytes: u8x64) -> u8x64
+    ensures len { length result ≡ 64 }
+    ensures bytes { take 48 result ≡ twelves bytes }
+{
+    u32x16::from_le_bytes(bytes).swizzle(TWELVES).to_le_bytes()
+}
 
 /// The bytes of the sixteen groups of a block of symbols, and then bytes without meaning.
 #[inline(always)]
@@ -161,5 +166,5 @@ pub(crate) fn decode_block(bytes: u8x64) -> u8x64
     ensures len { length result ≡ 64 }
     ensures bytes { take 48 result ≡ groups (map symbol_value bytes) }
 {
-    bytes_of(numbers_of(values_of(bytes))).swizzle(TWELVES)
+    twelves_of(bytes_of(numbers_of(values_of(bytes))))
 }

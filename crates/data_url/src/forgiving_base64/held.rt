@@ -1,10 +1,13 @@
 //! The bytes of whole groups of a text of base64 (RFC 4648, section 4) that the closure was not yet called with.
 
-ghost use Rattle.std.specs.Prelude.{◌≡◌, ◌%◌, ◌+◌, ◌≤◌, ◌<◌, ◌++◌, [], drop, length, take};
+ghost use Rattle.std.specs.Prelude.{◌≡◌, ◌%◌, ◌*◌, ◌+◌, ◌/◌, ◌≤◌, ◌<◌, ◌++◌, [], drop, length, take};
+ghost use Rattle.std.specs.List.{prefix_len};
+ghost use Rattle.data_url.specs.Base64.{is_symbol};
 
-use super::alphabet::{decode_row, group_of, is_of_symbols, is_symbol, symbols_ahead};
+use super::alphabet::{decode_row, is_of_symbols, symbols_ahead};
 use super::gaps::{before_partial, decode_unit, pack_rows, row_over_gap, spaces_ahead};
-use crate::classes::lanes::{last_row, put, repeated, row};
+use crate::classes::lanes::{first_row, put, repeated, row};
+use std::simd::prelude::*;
 
 /// How many bytes of groups are held before the closure is called. With 16 groups, lines of 76 symbols take a fifth longer.
 pub(crate) const FULL: usize = 192;
@@ -65,7 +68,7 @@ impl HeldGroups {
         self.len = end;
     }
 
-    /// Adds whole groups that a text begins with: those of rows of sixteen bytes, or one group of a short text. White space between
+    /// Adds whole groups that a text begins with: at most two of a text with fewer than sixteen bytes. Otherwise white space between
     /// and after their symbols is skipped. Returns how many bytes of the text they take.
     #[inline(always)]
     pub(crate) fn fill(&mut self, text: &[u8]) -> usize
@@ -73,24 +76,17 @@ impl HeldGroups {
         ensures within { result ≤ length text.now }
         ensures fills { Fills (held_bytes self.old) (take result text.now) (held_bytes self.new) }
     {
-        if text.len() >= 16 {
-            let taken = self.fill_rows(text);
-            if self.len >= FULL {
-                return taken;
-            }
-            if text.len() - taken < 16 {
-                return taken + self.fill_last(text, taken);
-            }
-            return taken + self.fill_spaced(&text[taken..]);
-        }
-        if text.len() < 4 || !is_symbol(text[0]) || !is_symbol(text[1]) {
+        if text.len() < 4 {
             return 0;
         }
-        if !is_symbol(text[2]) || !is_symbol(text[3]) {
-            return 0;
+        if text.len() < 16 {
+            return self.fill_row(first_row(text));
         }
-        self.push(group_of(text[0], text[1], text[2], text[3]));
-        4
+        let taken = self.fill_rows(text);
+        if self.len >= FULL || text.len() - taken < 16 {
+            return taken;
+        }
+        taken + self.fill_spaced(&text[taken..])
     }
 
     /// Adds the groups of rows of sixteen symbols, each with a gap at most, until 64 groups are held. Returns how many bytes they take.
@@ -133,17 +129,13 @@ impl HeldGroups {
         at
     }
 
-    /// Adds the whole groups that the last bytes of a text begin with, from a place on. Returns how many bytes these take.
+    /// Adds the whole groups that a row begins with. Returns how many bytes these take.
     #[inline(always)]
-    fn fill_last(&mut self, text: &[u8], at: usize) -> usize
-        requires long { 16 ≤ length text.now }
-        requires last { (at ≤ length text.now) × (length text.now < at + 16) }
+    fn fill_row(&mut self, row: u8x16) -> usize
         requires room { self.old.len < 192 }
-        ensures within { at + result ≤ length text.now }
-        ensures fills { Fills (held_bytes self.old) (take result (drop at text.now))
-            (held_bytes self.new) }
+        ensures groups { result ≡ 4 * (prefix_len is_symbol row / 4) }
+        ensures fills { Fills (held_bytes self.old) (take result row) (held_bytes self.new) }
     {
-        let row = last_row(text, at + 16 - text.len());
         let groups = symbols_ahead(row) / 4;
         put(&mut self.bytes, self.len, decode_row(row));
         self.len += 3 * groups;

@@ -1,28 +1,29 @@
-use Rattle.std.{proofs.Common.{arith, drop, take, take-add}, proofs.lemmas.List.{take_rest}}
-use Rattle.data_url.proofs.forgiving_base64.Groups.{fill_one, fills_nothing, fills_then}
+use Rattle.std.proofs.Common.{◌≡◌, ◌≤◌, drop, length, take, take-add, ⊎_elim}
+use Rattle.std.proofs.lemmas.{Bool.{cases_lt}, List.{take_rest}}
+use Rattle.data_url.proofs.forgiving_base64.Groups.{fills_nothing, fills_then, groups_within}
 use Rattle.data_url.proofs.forgiving_base64.held.HeldGroups.fill.Goals as goal
 
-pub returns-then-text-ge16-clause-fills : goal.returns-then-text-ge16-clause-fills
-returns-then-text-ge16-clause-fills c =
+pub returns-then-text-lt4-clause-fills : goal.returns-then-text-lt4-clause-fills
+returns-then-text-lt4-clause-fills c = fills_nothing _
+
+-- a short text begins with the groups of its first bytes
+first : (c : goal.After-fill_row) → let m = c.fill_row.result in
+    (m ≤ length c.args.text.now) × (take m c.first_row.result ≡ take m c.args.text.now)
+first c =
+    let within = groups_within c.args.text.now c.first_row.result in
+    ⊎_elim (λ l. within 4 _ 12 (c.first_row.ensures.four l) c.fill_row.ensures.groups)
+    (λ l. within 8 _ 8 (c.first_row.ensures.eight l) c.fill_row.ensures.groups) (cases_lt (length c.args.text.now) 8)
+
+pub returns-then-text-lt16-clause-within : goal.returns-then-text-lt16-clause-within
+returns-then-text-lt16-clause-within c = (first c).0
+
+pub returns-then-text-lt16-clause-fills : goal.returns-then-text-lt16-clause-fills
+returns-then-text-lt16-clause-fills c = rw (first c).1 at c.fill_row.ensures.fills
+
+pub returns-clause-fills : goal.returns-clause-fills
+returns-clause-fills c =
     let text = c.args.text.now in
     let n = c.fill_rows-taken.result in
     let m = c.fill_spaced.result in
     rw (take-add n m text) (fills_then (take n text) (take m (drop n text)) c.fill_rows-taken.ensures.fills
     (rw (take_rest text n) at c.fill_spaced.ensures.fills))
-
-pub returns-then-text-taken-lt16-clause-fills : goal.returns-then-text-taken-lt16-clause-fills
-returns-then-text-taken-lt16-clause-fills c =
-    let text = c.args.text.now in
-    let n = c.fill_rows-taken.result in
-    let m = c.fill_last.result in
-    rw (take-add n m text) (fills_then (take n text) (take m (drop n text)) c.fill_rows-taken.ensures.fills
-    c.fill_last.ensures.fills)
-
-pub returns-then-text-lt4-clause-fills : goal.returns-then-text-lt4-clause-fills
-returns-then-text-lt4-clause-fills c = fills_nothing _
-
-pub returns-then-not-is_symbol-3-clause-fills : goal.returns-then-not-is_symbol-3-clause-fills
-returns-then-not-is_symbol-3-clause-fills c = fills_nothing _
-
-pub returns-clause-fills : goal.returns-clause-fills
-returns-clause-fills c = grind (arith, fill_one)
