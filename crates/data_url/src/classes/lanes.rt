@@ -124,10 +124,10 @@ pub(crate) fn rows_len(others: [u8; 16], bytes: &[u8]) -> usize
     let mut at = 0;
     while at < end {
         let row = row(bytes, at);
-        if !is_unmarked(&others, repeated(row)) {
-            return at + marks(&others, row).trailing_zeros() as usize;
-        }
         at += ROW;
+        if !is_unmarked(&others, repeated(row)) {
+            return at - ROW + marks(&others, row).trailing_zeros() as usize;
+        }
     }
     at
 }

@@ -1,4 +1,4 @@
-use Rattle.std.proofs.Common.{arith, ap, ◌∙◌, not}
+use Rattle.std.proofs.Common.{arith, ap, ◌∙◌, ◌+◌, ◌-◌, ◌≡◌, not}
 use Rattle.data_url.specs.Steps.Classes.{is_marked}
 use Rattle.data_url.proofs.classes.{Lookups.{all_in_rows}, Rows.{one_row_more, row_front}}
 use lib.Count.{count_trailing_zeros}
@@ -10,7 +10,8 @@ returns-then-not-is_unmarked c =
     let h = row_front c.args.others c.args.bytes.now c.loop-at.at c.loop-at.invariant
     (omega (arith, c.loop-at-test.true)) c.row-row.ensures (c.is_unmarked.ensures ∙ all) _
     c.if-not-is_unmarked.true (ap (count_trailing_zeros 64) c.marks.ensures) in
-    record { within = h.1.within; prefix = h.1.front }
+    let back : c.loop-at.at + 16 - 16 ≡ c.loop-at.at = omega arith in
+    rw back (record { within = h.1.within; prefix = h.1.front })
 
 pub loop-at-preserved : goal.loop-at-preserved
 loop-at-preserved c =
