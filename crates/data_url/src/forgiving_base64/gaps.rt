@@ -1,7 +1,7 @@
 //! White space between the symbols of base64 (Infra Standard, forgiving-base64 decode, step 1): gaps between two symbols of a
 //! row, and units, the symbols of several rows without the white space between them.
 
-ghost use Rattle.std.specs.Prelude.{◌≡◌, ◌*◌, ◌+◌, ◌%◌, ◌≤◌, ◌++◌, IfSome, IsTrue, filter, length, map, take, ℕ};
+ghost use Rattle.std.specs.Prelude.{◌≡◌, ◌*◌, ◌+◌, ◌%◌, ◌≤◌, ◌++◌, IfSome, IsTrue, drop, filter, length, map, take, ℕ};
 ghost use Rattle.std.specs.{Char.{is_ascii_whitespace}, List.{list_all, prefix_len}};
 ghost use Rattle.data_url.specs.Base64.{groups, is_symbol, symbol_value};
 ghost use Rattle.data_url.specs.Steps.Groups.{IsOverGap, is_symbol_or_space};
@@ -24,6 +24,21 @@ pub(crate) fn spaces_ahead(text: &[u8]) -> usize
         (b'\n', b' ') => text.len() - text[2..].trim_ascii_start().len(),
         _ => text.len() - text.trim_ascii_start().len(),
     }
+}
+
+/// Returns how many bytes of white space follow the first twelve bytes of a row, with which a text begins. One newline before symbols
+/// is recognised by the row's mask.
+#[inline(always)]
+pub(crate) fn spaces_after_twelve(text: &[u8], row: u8x16) -> usize
+    requires long { 16 ≤ length text.now }
+    requires begins { row ≡ take 16 text.now }
+    ensures within { 12 + result ≤ length text.now }
+    ensures spaces { result ≡ prefix_len is_ascii_whitespace (drop 12 text.now) }
+{
+    if others(row) == 4096 && text[12] == b'\n' {
+        return 1;
+    }
+    spaces_ahead(&text[12..])
 }
 
 /// Returns the first sixteen symbols of a text that has a gap before the last of them, and the length of the gap. Returns None

@@ -5,7 +5,7 @@ ghost use Rattle.std.specs.List.{prefix_len};
 ghost use Rattle.data_url.specs.Base64.{is_symbol};
 
 use super::alphabet::{decode_row, is_of_symbols, symbols_ahead};
-use super::gaps::{before_partial, decode_unit, pack_rows, row_over_gap, spaces_ahead};
+use super::gaps::{before_partial, decode_unit, pack_rows, row_over_gap, spaces_after_twelve};
 use crate::classes::lanes::{first_row, put, repeated, row};
 use std::simd::prelude::*;
 
@@ -108,7 +108,7 @@ impl HeldGroups {
                 len += 12;
                 at += 16;
             } else if symbols_ahead(row) == 12 {
-                let spaces = spaces_ahead(&text[at + 12..]);
+                let spaces = spaces_after_twelve(&text[at..], row);
                 put(&mut self.bytes, len, decode_row(row));
                 len += 9;
                 at += 12 + spaces;

@@ -41,18 +41,18 @@ loop-at-preserved-then-symbols_ahead-eq12 c =
     let text = c.args.text.now in
     let row = c.row-row.result in
     let symbols : 12 ≡ prefix_len is_symbol row = sym c.if-symbols_ahead-eq12.true ∙ c.symbols_ahead.ensures.starts in
-    let spaces = c.spaces_ahead-spaces.ensures in
+    let spaces = c.spaces_after_twelve-spaces.ensures in
     let after = drop 12 (drop l.at text) in
-    let front : c.spaces_ahead-spaces.result ≡ prefix_len is_ascii_whitespace after = spaces.spaces
-    ∙ ap (prefix_len is_ascii_whitespace) (take_rest text (l.at + 12) ∙ sym (drop-drop 12 l.at text)) in
+    let front : c.spaces_after_twelve-spaces.result ≡ prefix_len is_ascii_whitespace after =
+    spaces.spaces ∙ ap (λ t. prefix_len is_ascii_whitespace (drop 12 t)) (take_rest text l.at) in
     let ends = c.min-end-then-symbols_ahead-eq12.ensures in
     record {
       within = omega (
         arith,
         i.rows,
         spaces.within,
-        ap length (take_rest text (l.at + 12)),
-        length-drop (l.at + 12) text,
+        ap length (take_rest text l.at),
+        length-drop l.at text,
       );
       few = omega (arith, i.full);
       whole = omega (arith, i.whole);
