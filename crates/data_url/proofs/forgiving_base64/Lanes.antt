@@ -210,8 +210,8 @@ module _ (v : List ℕ) (long : length v ≡ 64) (fits : Each1 (Fits w8) v) wher
       let bytes = word_of (quarter j) (length-chunk (4 * t) 4 v (omega (arith, long, below)))
       (Each1-chunk (λ x. x < 256) (4 * t) 4 v small) in (
         ap (λ t. get_or t j 0) (pick_l_left 0 quarters quarters 16 TWELVES refl tt)
-        ∙ get_or-map (λ k. get_or quarters k 0) TWELVES j 0 0 l
-        ∙ get_or_wider 256 4 4294967296 16 v t refl small below,
+            ∙ get_or-map (λ k. get_or quarters k 0) TWELVES j 0 0 l
+            ∙ get_or_wider 256 4 4294967296 16 v t refl small below,
         bytes.0,
         bytes.1,
       )

@@ -51,12 +51,14 @@ pub(crate) fn spliced(first: u8x16, second: u8x16, at: usize) -> u8x16
 
 /// The places in a quarter of a row, four times, and those in half a row, twice.
 const QUARTERS: [usize; 16] = [0, 1, 2, 3, 0, 1, 2, 3, 0, 1, 2, 3, 0, 1, 2, 3];
+
 const HALVES: [usize; 16] = [0, 1, 2, 3, 4, 5, 6, 7, 0, 1, 2, 3, 4, 5, 6, 7];
 
 /// Returns the first eight bytes of a text, or four if it has fewer than eight, and then zeros: sixteen bytes together.
 #[inline(always)]
 pub(crate) fn first_row(text: &[u8]) -> u8x16
     requires { 4 ≤ length text.now }
+    ensures len { length result ≡ 16 }
     ensures four { length text.now < 8 → result ≡ take 4 text.now ++ replicate 12 0 }
     ensures eight { 8 ≤ length text.now → result ≡ take 8 text.now ++ replicate 8 0 }
 {

@@ -26,16 +26,15 @@ pub(crate) fn spaces_ahead(text: &[u8]) -> usize
     }
 }
 
-/// Returns how many bytes of white space follow the first twelve bytes of a row, with which a text begins. One newline before symbols
-/// is recognised by the row's mask.
+/// Returns how many bytes of white space follow the first twelve bytes of the row that a text begins with.
 #[inline(always)]
 pub(crate) fn spaces_after_twelve(text: &[u8], row: u8x16) -> usize
-    requires long { 16 ≤ length text.now }
-    requires begins { row ≡ take 16 text.now }
+    requires { (16 ≤ length text.now) × (row ≡ take 16 text.now) }
     ensures within { 12 + result ≤ length text.now }
     ensures spaces { result ≡ prefix_len is_ascii_whitespace (drop 12 text.now) }
 {
-    if others(row) == 4096 && text[12] == b'\n' {
+    // Of the row's bytes, only this one is not a symbol.
+    if others(row) == 1 << 12 && text[12] == b'\n' {
         return 1;
     }
     spaces_ahead(&text[12..])

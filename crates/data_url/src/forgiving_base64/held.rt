@@ -1,13 +1,10 @@
 //! The bytes of whole groups of a text of base64 (RFC 4648, section 4) that the closure was not yet called with.
 
-ghost use Rattle.std.specs.Prelude.{◌≡◌, ◌%◌, ◌*◌, ◌+◌, ◌/◌, ◌≤◌, ◌<◌, ◌++◌, [], drop, length, take};
-ghost use Rattle.std.specs.List.{prefix_len};
-ghost use Rattle.data_url.specs.Base64.{is_symbol};
+ghost use Rattle.std.specs.Prelude.{◌≡◌, ◌%◌, ◌+◌, ◌≤◌, ◌<◌, ◌++◌, [], drop, length, take};
 
 use super::alphabet::{decode_row, is_of_symbols, symbols_ahead};
 use super::gaps::{before_partial, decode_unit, pack_rows, row_over_gap, spaces_after_twelve};
 use crate::classes::lanes::{first_row, put, repeated, row};
-use std::simd::prelude::*;
 
 /// How many bytes of groups are held before the closure is called. With 16 groups, lines of 76 symbols take a fifth longer.
 pub(crate) const FULL: usize = 192;
@@ -63,9 +60,8 @@ impl HeldGroups {
         ensures bytes { held_bytes self.new ≡ held_bytes self.old ++ group }
         ensures len { self.new.len ≡ self.old.len + 3 }
     {
-        let end = self.len + group.len();
-        self.bytes[self.len..end].copy_from_slice(&group);
-        self.len = end;
+        self.bytes[self.len..self.len + 3].copy_from_slice(&group);
+        self.len += 3;
     }
 
     /// Adds whole groups that a text begins with: at most two of a text with fewer than sixteen bytes. Otherwise white space between
@@ -80,7 +76,11 @@ impl HeldGroups {
             return 0;
         }
         if text.len() < 16 {
-            return self.fill_row(first_row(text));
+            let row = first_row(text);
+            let groups = symbols_ahead(row) / 4;
+            put(&mut self.bytes, self.len, decode_row(row));
+            self.len += 3 * groups;
+            return 4 * groups;
         }
         let taken = self.fill_rows(text);
         if self.len >= FULL || text.len() - taken < 16 {
@@ -127,19 +127,6 @@ impl HeldGroups {
         }
         self.len = len;
         at
-    }
-
-    /// Adds the whole groups that a row begins with. Returns how many bytes these take.
-    #[inline(always)]
-    fn fill_row(&mut self, row: u8x16) -> usize
-        requires room { self.old.len < 192 }
-        ensures groups { result ≡ 4 * (prefix_len is_symbol row / 4) }
-        ensures fills { Fills (held_bytes self.old) (take result row) (held_bytes self.new) }
-    {
-        let groups = symbols_ahead(row) / 4;
-        put(&mut self.bytes, self.len, decode_row(row));
-        self.len += 3 * groups;
-        4 * groups
     }
 
     /// Adds the whole groups of rows of symbols and white space, until 64 groups are held. Returns how many bytes they take.

@@ -23,9 +23,9 @@ returns-then-text-eq10-clause-spaces c =
     let text = c.args.text.now in
     let row = c.args.row in
     let bit = ap {B = ℕ} (λ b. cond b 1 0) (sym (get_or-map is_other row 13 0 false (omega (arith, c.fits-row.0))))
-    ∙ sym (bit_mask_l (map is_other row) 13) ∙ ap (λ n. n / 2 ^ 13 % 2) (sym c.others.ensures ∙ c.if-others-eq4096.true) in
-    let next = get_or-drop 12 text 1 0 ∙ sym (ap (λ t. get_or t 13 0) c.requires.begins ∙ get_or-take 16 text 13 0 (omega arith)) in
-    sym (one_newline (drop 12 text) (omega (arith, length-drop 12 text, c.requires.long)) (get_or-drop 12 text 0 0
+    ∙ sym (bit_mask_l (map is_other row) 13) ∙ ap (λ n. n / 2 ^ 13 % 2) (sym c.others.ensures ∙ c.if-others.true) in
+    let next = get_or-drop 12 text 1 0 ∙ sym (ap (λ t. get_or t 13 0) c.requires.1 ∙ get_or-take 16 text 13 0 (omega arith)) in
+    sym (one_newline (drop 12 text) (omega (arith, length-drop 12 text, c.requires.0)) (get_or-drop 12 text 0 0
     ∙ c.if-text-eq10.true) (ap is_symbol next ∙ bit_clear (is_symbol (get_or row 13 0)) bit))
 
 pub returns-clause-spaces : goal.returns-clause-spaces
@@ -38,5 +38,5 @@ returns-clause-within c = omega (
   c.spaces_ahead.ensures.within,
   ap length (take_rest c.args.text.now 12),
   length-drop 12 c.args.text.now,
-  c.requires.long,
+  c.requires.0,
 )

@@ -1,24 +1,29 @@
-use Rattle.std.proofs.Common.{◌≡◌, ◌≤◌, drop, length, take, take-add, ⊎_elim}
+use Rattle.std.proofs.Common.{◌*◌, ◌/◌, ◌≡◌, ◌≤◌, ap, arith, drop, length, take, take-add, ⊎_elim}
 use Rattle.std.proofs.lemmas.{Bool.{cases_lt}, List.{take_rest}}
-use Rattle.data_url.proofs.forgiving_base64.Groups.{fills_nothing, fills_then, groups_within}
+use Rattle.data_url.proofs.forgiving_base64.Groups.{fills_nothing, fills_then, front_fills, groups_within}
 use Rattle.data_url.proofs.forgiving_base64.held.HeldGroups.fill.Goals as goal
 
 pub returns-then-text-lt4-clause-fills : goal.returns-then-text-lt4-clause-fills
 returns-then-text-lt4-clause-fills c = fills_nothing _
 
 -- a short text begins with the groups of its first bytes
-first : (c : goal.After-fill_row) → let m = c.fill_row.result in
-    (m ≤ length c.args.text.now) × (take m c.first_row.result ≡ take m c.args.text.now)
+first : (c : goal.After-self-1) → let m = 4 * (c.symbols_ahead-groups.result / 4) in
+    (m ≤ length c.args.text.now) × (take m c.first_row-row.result ≡ take m c.args.text.now)
 first c =
-    let within = groups_within c.args.text.now c.first_row.result in
-    ⊎_elim (λ l. within 4 _ 12 (c.first_row.ensures.four l) c.fill_row.ensures.groups)
-    (λ l. within 8 _ 8 (c.first_row.ensures.eight l) c.fill_row.ensures.groups) (cases_lt (length c.args.text.now) 8)
+    let within = groups_within c.args.text.now c.first_row-row.result in
+    let groups = ap (λ n. 4 * (n / 4)) c.symbols_ahead-groups.ensures.starts in
+    ⊎_elim (λ l. within 4 _ 12 (c.first_row-row.ensures.four l) groups)
+    (λ l. within 8 _ 8 (c.first_row-row.ensures.eight l) groups) (cases_lt (length c.args.text.now) 8)
 
 pub returns-then-text-lt16-clause-within : goal.returns-then-text-lt16-clause-within
 returns-then-text-lt16-clause-within c = (first c).0
 
 pub returns-then-text-lt16-clause-fills : goal.returns-then-text-lt16-clause-fills
-returns-then-text-lt16-clause-fills c = rw (first c).1 at c.fill_row.ensures.fills
+returns-then-text-lt16-clause-fills c =
+    let old = c.args.self.now in
+    rw (first c).1 at (front_fills old.bytes c.put.new.bytes c.decode_row.result c.first_row-row.result old.len _
+    c.first_row-row.ensures.len (ap (λ n. n / 4) c.symbols_ahead-groups.ensures.starts)
+    (omega (arith, old.sized, c.requires.room)) c.put.ensures c.decode_row.ensures.bytes)
 
 pub returns-clause-fills : goal.returns-clause-fills
 returns-clause-fills c =
