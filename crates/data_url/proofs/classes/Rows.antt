@@ -1,19 +1,13 @@
--- Classes of bytes, sixteen bytes at a time. For `rows_len` and `span`.
+-- Classes of bytes, sixteen at a time, and a row made of two. For `classes.rt`, `lanes.rt`, `values.rt` and `percent.rt`.
 use Rattle.std.proofs.Common.{bit_and, true, false, sym, ap, ◌∙◌, ⊎_elim, arith, w8, ◌==◌, ◌||◌, not, drop, length}
 use Rattle.std.proofs.Common.{length-drop, length-take-le, eqb-true, refl, slice_index, ◌≡◌, ℕ, ◌+◌, ◌%◌, ◌^◌, ◌<◌, ◌≤◌}
-use Rattle.std.proofs.Common.{Bool, List, [], ◌∷◌, cond, map, take, bit_or, eqb, ◌&&◌, get_or, get_or-take, ◌-◌, ◌*◌}
-use Rattle.std.proofs.Common.{◌/◌, ltb, subst, ◌++◌, ext_get_or, replicate, length-append, nat_lt, suc, zero}
+use Rattle.std.proofs.Common.{Bool, List, [], ◌∷◌, cond, map, take, bit_or, eqb, ◌&&◌, ◌++◌, nat_lt, suc, zero}
 use Rattle.std.proofs.lemmas.Simd.{bitmask_splat, map-map, none_from_empty_mask, run_in_chunk_fails, trailing_mask_l}
-use Rattle.std.proofs.lemmas.Simd.{Each1-from_get_or, SwzOk, SwzOk-from_Each1, get_or-swz_l, length-swz_l, swz_l}
 use Rattle.std.proofs.lemmas.{List.Sums.{prefix_len-le-length}, Bool.{agree_below, agree_below_at, cases_lt}}
-use Rattle.std.proofs.lemmas.{Bool.{false≢true}, List.{length-map, get_or-drop, get_or_append_left}}
-use Rattle.std.proofs.{lemmas.List.{get_or-append_right, get_or-replicate, length-replicate}, Math.Bool.{and_assoc}}
+use Rattle.std.proofs.{lemmas.Bool.{false≢true}, lemmas.List.{length-map}, Math.Bool.{and_assoc}}
 use Rattle.std.specs.{Int.Count.{count_trailing_zeros}, List.{prefix_len, list_all, range_with_len}}
 use Rattle.data_url.specs.{Steps.Classes.{AreOf, is_marked, looked_up}, declared.classes.TheConstants.{CLASSES}}
-use Rattle.data_url.specs.declared.classes.lanes.TheConstants.{PLACES}
 use Rattle.data_url.proofs.forgiving_base64.Vectors.{differs, or_zero}
-use mir.Val.{zeroes}
-use lib.Dec.{T}
 use lib.Lanes.{fold_l, mask_l, sel_l, top, zip2}
 
 -- the bits of the items that differ from 0 are the mask of the row's marked bytes

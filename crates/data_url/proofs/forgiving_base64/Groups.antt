@@ -1,5 +1,5 @@
 -- Groups of four symbols, and texts that are fed in two parts.
-use Rattle.std.proofs.Common.{sym, get_or, take, drop, refl, ap, ap₂, arith, length-take, get_or-take, take-append-drop}
+use Rattle.std.proofs.Common.{sym, take, drop, refl, ap, ap₂, arith, length-take, get_or-take, take-append-drop}
 use Rattle.std.proofs.Common.{append-nil, take-take, take_at, drop-drop, length-drop, length-take-le, ◌∙◌, false, min}
 use Rattle.std.proofs.Common.{None, take-add, append_assoc, length-append, ◌/◌, ◌≡◌, ℕ, Bool, ◌+◌, ◌*◌, ◌≤◌, true, ◌&&◌}
 use Rattle.std.proofs.Common.{◌||◌, List, [], ◌∷◌, ◌++◌, map, length, ◌-◌, replicate, zero, suc}
@@ -8,8 +8,8 @@ use Rattle.std.proofs.lemmas.List.{take_rest, map-append, length-replicate, take
 use Rattle.std.{proofs.lemmas.List.Elements.{filter-append}, proofs.lemmas.List.Folds.{list_all-append}}
 use Rattle.std.proofs.lemmas.List.Sums.{list_all-from_AllPass, prefix_len-le-length, prefix_len_passes}
 use Rattle.std.{specs.Char.{is_ascii_whitespace}, specs.List.{list_all, prefix_len, filter, list_any}}
-use Rattle.data_url.specs.Base64.{decoded, first_fault, left_padding, left_symbols, left_text, group_bytes}
-use Rattle.data_url.specs.{Base64.{group_number, groups, is_symbol, symbol_value, values, after_groups}, Laws.{GoesOn}}
+use Rattle.data_url.specs.Base64.{decoded, first_fault, left_padding, left_symbols, left_text}
+use Rattle.data_url.specs.{Base64.{groups, is_symbol, symbol_value, values, after_groups}, Laws.{GoesOn}}
 use Rattle.data_url.specs.{Laws.{TwoFeeds}, Steps.Groups.{Fills, IsOverGap, is_symbol_or_space}}
 use Rattle.data_url.specs.Steps.Lanes.{DecodesFront}
 use Rattle.data_url.proofs.forgiving_base64.Padding.{after_groups-append, after_groups-map, before-append, before_none}
@@ -246,13 +246,13 @@ row_leaves_at text old new bytes row at n m k before room put decodes long is fe
     (row_leaves old new bytes row n m (4 * m + k) before room put decodes few
     (row_long rest is (omega (arith, length-drop at text))) (front_symbols row rest m k front all spaces))
 
--- zeros are no symbols
+-- a text with zeros after it begins with no more symbols than it has bytes
 symbols_end : (text : List ℕ) (after : ℕ) → prefix_len is_symbol (text ++ replicate after 0) ≤ length text
 symbols_end [] zero = omega arith
 symbols_end [] (suc after) = omega arith
 symbols_end (b ∷ text) after = grind (arith, symbols_end text after)
 
--- a text begins with the groups of a row that has some of its first bytes and then zeros
+-- if a row has the first bytes of a text and then zeros, the text begins with the row's groups
 pub groups_within : (text row : List ℕ) (n m after : ℕ) → row ≡ take n text ++ replicate after 0
     → m ≡ 4 * (prefix_len is_symbol row / 4) → (m ≤ length text) × (take m row ≡ take m text)
 groups_within text row n m after is groups =
@@ -263,7 +263,7 @@ groups_within text row n m after is groups =
       ap (take m) is ∙ take-append-le m front (replicate after 0) few ∙ take-take m n text (omega (arith, few, size)),
     )
 
--- the groups that a row begins with are held, if it was decoded
+-- if a row was decoded and put after n bytes, the groups that it begins with are held
 pub front_fills : (old new bytes row : List ℕ) (n m : ℕ) → length row ≡ 16 → m ≡ prefix_len is_symbol row / 4
     → n + 16 ≤ length old → take (n + 16) new ≡ take n old ++ bytes → DecodesFront row bytes
     → Fills (take n old) (take (4 * m) row) (take (n + 3 * m) new)

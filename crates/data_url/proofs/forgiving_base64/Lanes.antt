@@ -1,14 +1,15 @@
--- Symbols of base64 in 16 lanes and in 64. For `alphabet.rt` and `classes/lanes.rt`.
+-- Rows and blocks of symbols, in lanes of 8 and of 32 bits. For `alphabet.rt`.
 use Rattle.std.proofs.Common.{List, [], ◌∷◌, ◌++◌, map, ◌≡◌, ℕ, ◌<◌, ◌≤◌, true, eqb, get_or, Fits, w8, w32, ap, length}
 use Rattle.std.proofs.Common.{◌+◌, ◌*◌, ◌/◌, ◌%◌, ◌^◌, refl, sym, ◌∙◌, ap₂, arith, suc, zero, take, drop, replicate}
-use Rattle.std.{proofs.Common.{cond, eqb-true, subst}, proofs.Math.Dec.{ltb}, proofs.lemmas.Bool.{agree_below_at, ltb-true}}
+use Rattle.std.proofs.{Common.{cond, eqb-true, subst}, Math.Dec.{ltb}, lemmas.Bool.{agree_below_at, ltb-true}}
 use Rattle.std.proofs.lemmas.List.{drop_all, drop_more, ext_get_or, get_or-map, get_or-take, take-map, take-take}
-use Rattle.std.proofs.lemmas.Simd.{Each1-chunk, Each1-from_get_or, get_or-chunk, get_or_narrower, get_or_wider, length-chunk}
-use Rattle.std.proofs.lemmas.Simd.{below_from_Fits, pick_l_left, pick_l_whole, splat_is_map, tops_compared, zip2_splat}
+use Rattle.std.proofs.lemmas.Simd.{Each1-chunk, Each1-from_get_or, get_or-chunk, get_or_narrower, get_or_wider}
+use Rattle.std.proofs.lemmas.Simd.{below_from_Fits, length-chunk, pick_l_left, pick_l_whole, splat_is_map}
+use Rattle.std.proofs.lemmas.Simd.{tops_compared, zip2_splat}
 use Rattle.std.specs.List.{list_all, range_with_len}
 use Rattle.data_url.specs.{Base64.{group_number, groups, is_symbol, symbol_value}, Steps.Lanes.{DecodesFront}}
 use Rattle.data_url.specs.Steps.Lanes.{offset_row, number_bytes, numbers, twelves, value_of}
-use Rattle.data_url.specs.declared.forgiving_base64.alphabet.TheConstants.{TWELVES}
+use Rattle.data_url.specs.declared.forgiving_base64.alphabet.TheConstants.{THREE_QUARTERS}
 use Rattle.data_url.proofs.classes.Lookups.{extracted, extracted_is, first_row, four_rows}
 use Rattle.data_url.proofs.forgiving_base64.Vectors.{chosen, joined, each_take, front_values}
 use lib.Lanes.{chunk, sel_l, top, Each1, digits_l, number_l, pair_sums, pick_l, products, zip2}
@@ -166,7 +167,7 @@ row_is s w vs ns r long fits f p q size o m few all =
 
 -- Blocks
 
--- the byte of a number of four bytes
+-- each of four bytes is a byte of the number that they make
 byte_of : (a b c d i : ℕ) → a < 256 → b < 256 → c < 256 → d < 256 → i < 4
     → number_l 256 (a ∷ b ∷ c ∷ d ∷ []) / 256 ^ i % 256 ≡ get_or (a ∷ b ∷ c ∷ d ∷ []) i 0
 byte_of a b c d zero p q r s l = omega (arith, p)
@@ -175,47 +176,48 @@ byte_of a b c d (suc (suc zero)) p q r s l = omega (arith, p, q, r)
 byte_of a b c d (suc (suc (suc zero))) p q r s l = omega (arith, p, q, r, s)
 byte_of a b c d (suc (suc (suc (suc i)))) p q r s l = absurd (omega (arith, l))
 
--- four bytes as a number of 32 bits
-word_of : (xs : List ℕ) → length xs ≡ 4 → Each1 (λ x. x < 256) xs
+-- the number of four bytes is less than 2 ^ 32, and has these bytes
+four_bytes : (xs : List ℕ) → length xs ≡ 4 → Each1 (λ x. x < 256) xs
     → (number_l 256 xs < 4294967296) × ((i : ℕ) → i < 4 → number_l 256 xs / 256 ^ i % 256 ≡ get_or xs i 0)
-word_of (a ∷ b ∷ c ∷ d ∷ []) long h =
+four_bytes (a ∷ b ∷ c ∷ d ∷ []) long h =
     (omega (arith, h.0, h.1.0, h.1.1.0, h.1.1.1.0), λ i. byte_of a b c d i h.0 h.1.0 h.1.1.0 h.1.1.1.0)
-word_of [] long h = absurd (omega (arith, long))
-word_of (a ∷ []) long h = absurd (omega (arith, long))
-word_of (a ∷ b ∷ []) long h = absurd (omega (arith, long))
-word_of (a ∷ b ∷ c ∷ []) long h = absurd (omega (arith, long))
-word_of (a ∷ b ∷ c ∷ d ∷ e ∷ xs) long h = absurd (omega (arith, long))
+four_bytes [] long h = absurd (omega (arith, long))
+four_bytes (a ∷ []) long h = absurd (omega (arith, long))
+four_bytes (a ∷ b ∷ []) long h = absurd (omega (arith, long))
+four_bytes (a ∷ b ∷ c ∷ []) long h = absurd (omega (arith, long))
+four_bytes (a ∷ b ∷ c ∷ d ∷ e ∷ xs) long h = absurd (omega (arith, long))
 
--- what a swizzle of the quarters of rows by the places of the first three of each begins with
+-- A swizzle of the quarters of the rows of a block
 module _ (v : List ℕ) (long : length v ≡ 64) (fits : Each1 (Fits w8) v) where
   -- the quarters that are picked, as numbers
   abbrev pub picked_quarters : List ℕ
   picked_quarters =
       let quarters = digits_l 4294967296 16 (number_l 256 v) in
-      pick_l 0 (quarters ++ quarters) TWELVES
+      pick_l 0 (quarters ++ quarters) THREE_QUARTERS
 
   -- the bytes of one of them
   abbrev quarter : ℕ → List ℕ
-  quarter j = chunk (4 * get_or TWELVES j 0) 4 v
+  quarter j = chunk (4 * get_or THREE_QUARTERS j 0) 4 v
 
-  -- its number is that of its bytes
+  -- a picked quarter is the number of its bytes, which is less than 2 ^ 32, and has these bytes
   quarter_is : (j : ℕ) → j < 16 → (get_or picked_quarters j 0 ≡ number_l 256 (quarter j))
       × (number_l 256 (quarter j) < 4294967296)
       × ((i : ℕ) → i < 4 → number_l 256 (quarter j) / 256 ^ i % 256 ≡ get_or (quarter j) i 0)
   quarter_is j l =
       let small = below_from_Fits w8 v fits in
       let quarters = digits_l 4294967296 16 (number_l 256 v) in
-      let t = get_or TWELVES j 0 in
-      let below = ltb-true _ _ (agree_below_at (λ k. ltb (get_or TWELVES k 0) 16) (λ _. true) 16 j refl l) in
-      let bytes = word_of (quarter j) (length-chunk (4 * t) 4 v (omega (arith, long, below)))
+      let t = get_or THREE_QUARTERS j 0 in
+      let below = ltb-true _ _ (agree_below_at (λ k. ltb (get_or THREE_QUARTERS k 0) 16) (λ _. true) 16 j refl l) in
+      let bytes = four_bytes (quarter j) (length-chunk (4 * t) 4 v (omega (arith, long, below)))
       (Each1-chunk (λ x. x < 256) (4 * t) 4 v small) in (
-        ap (λ t. get_or t j 0) (pick_l_left 0 quarters quarters 16 TWELVES refl tt)
-            ∙ get_or-map (λ k. get_or quarters k 0) TWELVES j 0 0 l
+        ap (λ t. get_or t j 0) (pick_l_left 0 quarters quarters 16 THREE_QUARTERS refl tt)
+            ∙ get_or-map (λ k. get_or quarters k 0) THREE_QUARTERS j 0 0 l
             ∙ get_or_wider 256 4 4294967296 16 v t refl small below,
         bytes.0,
         bytes.1,
       )
 
+  -- what is picked begins with the first twelve bytes of each row
   pub picked_twelves : take 48 (digits_l 256 64 (number_l 4294967296 picked_quarters)) ≡ twelves v
   picked_twelves =
       let places = twelves (range_with_len 0 64) in
@@ -227,14 +229,15 @@ module _ (v : List ℕ) (long : length v ≡ 64) (fits : Each1 (Fits w8) v) wher
       let i = k % 4 in
       let q = quarter_is j (omega (arith, l)) in
       let at : k ≡ 4 * j + i = omega arith in
-      let place = eqb-true _ _ (agree_below_at (λ k. eqb (4 * get_or TWELVES (k / 4) 0 + k % 4) (get_or places k 0))
+      let place = eqb-true _ _ (agree_below_at
+      (λ k. eqb (4 * get_or THREE_QUARTERS (k / 4) 0 + k % 4) (get_or places k 0))
       (λ _. true) 48 k refl l) in
       get_or-take 48 found k 0 l
       ∙ ap (λ n. get_or found n 0) at
       ∙ get_or_narrower 4294967296 4 256 64 picked_quarters j i refl few (omega arith) (omega (arith, l))
       ∙ ap (λ n. n / 256 ^ i % 256) q.0
       ∙ q.2 i (omega arith)
-      ∙ get_or-chunk (4 * get_or TWELVES j 0) 4 v i 0 (omega arith)
+      ∙ get_or-chunk (4 * get_or THREE_QUARTERS j 0) 4 v i 0 (omega arith)
       ∙ ap (λ n. get_or v n 0) place
       ∙ sym (get_or-map (λ n. get_or v n 0) places k 0 0 l))
       ∙ ap twelves (pick_l_whole 0 v 64 long)

@@ -1,4 +1,5 @@
--- Rows with gaps, and units of symbols with white space between them. For `gaps.rt`.
+-- Rows with gaps, and units of symbols with white space between them. For `gaps.rt`,
+-- `symbols_ahead` and `fill_spaced`.
 use Rattle.std.proofs.Common.{List, ◌++◌, map, ◌≡◌, ℕ, ◌<◌, ◌≤◌, ◌+◌, ◌*◌, ◌-◌, ◌/◌, ◌%◌, ◌^◌, true, false, cond}
 use Rattle.std.proofs.Common.{get_or, ⊎_elim, length-take-le, length, take, drop, ap, sym, ◌∙◌, arith, take-take}
 use Rattle.std.proofs.Common.{take-append-drop, append_assoc, append-nil, take-add, take_at, suc, zero, refl, [], ◌∷◌}

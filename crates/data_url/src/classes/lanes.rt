@@ -49,14 +49,15 @@ pub(crate) fn spliced(first: u8x16, second: u8x16, at: usize) -> u8x16
         .select(first, second)
 }
 
-/// The places in a quarter of a row, four times, and those in half a row, twice.
-const QUARTERS: [usize; 16] = [0, 1, 2, 3, 0, 1, 2, 3, 0, 1, 2, 3, 0, 1, 2, 3];
+/// The places in a quarter of a row, four times.
+const QUARTER_FOUR_TIMES: [usize; 16] = [0, 1, 2, 3, 0, 1, 2, 3, 0, 1, 2, 3, 0, 1, 2, 3];
 
-const HALVES: [usize; 16] = [0, 1, 2, 3, 4, 5, 6, 7, 0, 1, 2, 3, 4, 5, 6, 7];
+/// The places in half a row, twice.
+const HALF_TWICE: [usize; 16] = [0, 1, 2, 3, 4, 5, 6, 7, 0, 1, 2, 3, 4, 5, 6, 7];
 
-/// Returns the first eight bytes of a text, or four if it has fewer than eight, and then zeros: sixteen bytes together.
+/// Returns a row that has the first eight bytes of a text, or the first four if it has fewer than eight, and then zeros.
 #[inline(always)]
-pub(crate) fn first_row(text: &[u8]) -> u8x16
+pub(crate) fn short_row(text: &[u8]) -> u8x16
     requires { 4 ≤ length text.now }
     ensures len { length result ≡ 16 }
     ensures four { length text.now < 8 → result ≡ take 4 text.now ++ replicate 12 0 }
@@ -64,9 +65,9 @@ pub(crate) fn first_row(text: &[u8]) -> u8x16
 {
     let zeros = u8x16::splat(0);
     if text.len() < 8 {
-        return spliced(u8x4::from_slice(text).swizzle(QUARTERS), zeros, 4);
+        return spliced(u8x4::from_slice(text).swizzle(QUARTER_FOUR_TIMES), zeros, 4);
     }
-    spliced(u8x8::from_slice(text).swizzle(HALVES), zeros, 8)
+    spliced(u8x8::from_slice(text).swizzle(HALF_TWICE), zeros, 8)
 }
 
 /// The places in a row, four times.
@@ -126,6 +127,7 @@ pub(crate) fn rows_len(others: [u8; 16], bytes: &[u8]) -> usize
     let mut at = 0;
     while at < end {
         let row = row(bytes, at);
+        // Before the test, so that a row takes one jump.
         at += ROW;
         if !is_unmarked(&others, repeated(row)) {
             return at - ROW + marks(&others, row).trailing_zeros() as usize;

@@ -26,14 +26,14 @@ pub(crate) fn spaces_ahead(text: &[u8]) -> usize
     }
 }
 
-/// Returns how many bytes of white space follow the first twelve bytes of the row that a text begins with.
+/// Returns how many bytes of white space follow the first twelve bytes of a text. `row` is the row that it begins with.
 #[inline(always)]
 pub(crate) fn spaces_after_twelve(text: &[u8], row: u8x16) -> usize
     requires { (16 ≤ length text.now) × (row ≡ take 16 text.now) }
     ensures within { 12 + result ≤ length text.now }
     ensures spaces { result ≡ prefix_len is_ascii_whitespace (drop 12 text.now) }
 {
-    // Of the row's bytes, only this one is not a symbol.
+    // Only byte 12 of the row is not a symbol, so a newline there is all the white space.
     if others(row) == 1 << 12 && text[12] == b'\n' {
         return 1;
     }

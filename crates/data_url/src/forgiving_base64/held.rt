@@ -4,7 +4,7 @@ ghost use Rattle.std.specs.Prelude.{◌≡◌, ◌%◌, ◌+◌, ◌≤◌, ◌<
 
 use super::alphabet::{decode_row, is_of_symbols, symbols_ahead};
 use super::gaps::{before_partial, decode_unit, pack_rows, row_over_gap, spaces_after_twelve};
-use crate::classes::lanes::{first_row, put, repeated, row};
+use crate::classes::lanes::{put, repeated, row, short_row};
 
 /// How many bytes of groups are held before the closure is called. With 16 groups, lines of 76 symbols take a fifth longer.
 pub(crate) const FULL: usize = 192;
@@ -64,8 +64,8 @@ impl HeldGroups {
         self.len += 3;
     }
 
-    /// Adds whole groups that a text begins with: at most two of a text with fewer than sixteen bytes. Otherwise white space between
-    /// and after their symbols is skipped. Returns how many bytes of the text they take.
+    /// Adds whole groups that a text begins with, at most two if it has fewer than sixteen bytes. Of a longer text, white space is
+    /// skipped, and a rest of fewer than sixteen bytes may be left. Returns how many bytes were read.
     #[inline(always)]
     pub(crate) fn fill(&mut self, text: &[u8]) -> usize
         requires room { self.old.len < 192 }
@@ -76,7 +76,7 @@ impl HeldGroups {
             return 0;
         }
         if text.len() < 16 {
-            let row = first_row(text);
+            let row = short_row(text);
             let groups = symbols_ahead(row) / 4;
             put(&mut self.bytes, self.len, decode_row(row));
             self.len += 3 * groups;

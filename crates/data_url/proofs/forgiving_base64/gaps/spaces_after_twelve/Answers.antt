@@ -13,7 +13,7 @@ one_newline [] l p q = absurd (omega arith)
 one_newline (x ∷ []) l p q = absurd (omega arith)
 one_newline (x ∷ y ∷ s) l p q = let k = symbol_alone (classes y) q in grind arith
 
--- a bit is 0 where a byte is a symbol
+-- if the bit of a byte is 0, the byte is a symbol
 bit_clear : (b : Bool) → cond {A = ℕ} (not b) 1 0 ≡ 0 → b ≡ true
 bit_clear true e = refl
 bit_clear false e = absurd (omega (arith, e))
@@ -24,7 +24,8 @@ returns-then-text-eq10-clause-spaces c =
     let row = c.args.row in
     let bit = ap {B = ℕ} (λ b. cond b 1 0) (sym (get_or-map is_other row 13 0 false (omega (arith, c.fits-row.0))))
     ∙ sym (bit_mask_l (map is_other row) 13) ∙ ap (λ n. n / 2 ^ 13 % 2) (sym c.others.ensures ∙ c.if-others.true) in
-    let next = get_or-drop 12 text 1 0 ∙ sym (ap (λ t. get_or t 13 0) c.requires.1 ∙ get_or-take 16 text 13 0 (omega arith)) in
+    let next = get_or-drop 12 text 1 0
+    ∙ sym (ap (λ t. get_or t 13 0) c.requires.1 ∙ get_or-take 16 text 13 0 (omega arith)) in
     sym (one_newline (drop 12 text) (omega (arith, length-drop 12 text, c.requires.0)) (get_or-drop 12 text 0 0
     ∙ c.if-text-eq10.true) (ap is_symbol next ∙ bit_clear (is_symbol (get_or row 13 0)) bit))
 

@@ -6,23 +6,23 @@ use Rattle.data_url.proofs.forgiving_base64.held.HeldGroups.fill.Goals as goal
 pub returns-then-text-lt4-clause-fills : goal.returns-then-text-lt4-clause-fills
 returns-then-text-lt4-clause-fills c = fills_nothing _
 
--- a short text begins with the groups of its first bytes
-first : (c : goal.After-self-1) → let m = 4 * (c.symbols_ahead-groups.result / 4) in
-    (m ≤ length c.args.text.now) × (take m c.first_row-row.result ≡ take m c.args.text.now)
-first c =
-    let within = groups_within c.args.text.now c.first_row-row.result in
+-- a short text begins with the groups of the row of its first bytes
+first_groups : (c : goal.After-self-1) → let m = 4 * (c.symbols_ahead-groups.result / 4) in
+    (m ≤ length c.args.text.now) × (take m c.short_row-row.result ≡ take m c.args.text.now)
+first_groups c =
+    let within = groups_within c.args.text.now c.short_row-row.result in
     let groups = ap (λ n. 4 * (n / 4)) c.symbols_ahead-groups.ensures.starts in
-    ⊎_elim (λ l. within 4 _ 12 (c.first_row-row.ensures.four l) groups)
-    (λ l. within 8 _ 8 (c.first_row-row.ensures.eight l) groups) (cases_lt (length c.args.text.now) 8)
+    ⊎_elim (λ l. within 4 _ 12 (c.short_row-row.ensures.four l) groups)
+    (λ l. within 8 _ 8 (c.short_row-row.ensures.eight l) groups) (cases_lt (length c.args.text.now) 8)
 
 pub returns-then-text-lt16-clause-within : goal.returns-then-text-lt16-clause-within
-returns-then-text-lt16-clause-within c = (first c).0
+returns-then-text-lt16-clause-within c = (first_groups c).0
 
 pub returns-then-text-lt16-clause-fills : goal.returns-then-text-lt16-clause-fills
 returns-then-text-lt16-clause-fills c =
     let old = c.args.self.now in
-    rw (first c).1 at (front_fills old.bytes c.put.new.bytes c.decode_row.result c.first_row-row.result old.len _
-    c.first_row-row.ensures.len (ap (λ n. n / 4) c.symbols_ahead-groups.ensures.starts)
+    rw (first_groups c).1 at (front_fills old.bytes c.put.new.bytes c.decode_row.result c.short_row-row.result old.len _
+    c.short_row-row.ensures.len (ap (λ n. n / 4) c.symbols_ahead-groups.ensures.starts)
     (omega (arith, old.sized, c.requires.room)) c.put.ensures c.decode_row.ensures.bytes)
 
 pub returns-clause-fills : goal.returns-clause-fills
