@@ -1,4 +1,4 @@
--- Classes of bytes, sixteen at a time, and a row made of two. For `classes.rt`, `lanes.rt`, `values.rt` and `percent.rt`.
+-- Classes of bytes, sixteen at a time, and a row made of two. For `classes`, `lanes`, `values` and `percent.rt`.
 use Rattle.std.proofs.Common.{bit_and, true, false, sym, ap, ◌∙◌, ⊎_elim, arith, w8, ◌==◌, ◌||◌, not, drop, length}
 use Rattle.std.proofs.Common.{length-drop, length-take-le, eqb-true, refl, slice_index, ◌≡◌, ℕ, ◌+◌, ◌%◌, ◌^◌, ◌<◌, ◌≤◌}
 use Rattle.std.proofs.Common.{Bool, List, [], ◌∷◌, cond, map, take, bit_or, eqb, ◌&&◌, ◌++◌, nat_lt, suc, zero}
