@@ -189,11 +189,13 @@ four_bytes (a ∷ b ∷ c ∷ d ∷ e ∷ xs) long h = absurd (omega (arith, lon
 
 -- A swizzle of the quarters of the rows of a block
 module _ (v : List ℕ) (long : length v ≡ 64) (fits : Each1 (Fits w8) v) where
-  -- the quarters that are picked, as numbers
+  -- the quarters, as numbers
+  abbrev pub quarters : List ℕ
+  quarters = digits_l 4294967296 16 (number_l 256 v)
+
+  -- those that are picked
   abbrev pub picked_quarters : List ℕ
-  picked_quarters =
-      let quarters = digits_l 4294967296 16 (number_l 256 v) in
-      pick_l 0 (quarters ++ quarters) THREE_QUARTERS
+  picked_quarters = pick_l 0 (quarters ++ quarters) THREE_QUARTERS
 
   -- the bytes of one of them
   abbrev quarter : ℕ → List ℕ
@@ -205,7 +207,6 @@ module _ (v : List ℕ) (long : length v ≡ 64) (fits : Each1 (Fits w8) v) wher
       × ((i : ℕ) → i < 4 → number_l 256 (quarter j) / 256 ^ i % 256 ≡ get_or (quarter j) i 0)
   quarter_is j l =
       let small = below_from_Fits w8 v fits in
-      let quarters = digits_l 4294967296 16 (number_l 256 v) in
       let t = get_or THREE_QUARTERS j 0 in
       let below = ltb-true _ _ (agree_below_at (λ k. ltb (get_or THREE_QUARTERS k 0) 16) (λ _. true) 16 j refl l) in
       let bytes = four_bytes (quarter j) (length-chunk (4 * t) 4 v (omega (arith, long, below)))

@@ -127,7 +127,7 @@ pub(crate) fn rows_len(others: [u8; 16], bytes: &[u8]) -> usize
     let mut at = 0;
     while at < end {
         let row = row(bytes, at);
-        // Before the test, so that a row takes one jump.
+        // Before the test, so that the compiler ends the loop with the test, which is faster.
         at += ROW;
         if !is_unmarked(&others, repeated(row)) {
             return at - ROW + marks(&others, row).trailing_zeros() as usize;
