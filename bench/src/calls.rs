@@ -25,6 +25,31 @@ impl Buffer<'_> {
     }
 }
 
+/// What a closure adds up that keeps none of its bytes: how many there are, and the first byte of each piece.
+#[derive(Default)]
+struct Sum {
+    len: usize,
+    first_bytes: u8,
+}
+
+impl Sum {
+    #[inline(always)]
+    fn add(&mut self, piece: &[u8]) -> Result<(), ()> {
+        self.len = self.len.wrapping_add(piece.len());
+        if let Some(byte) = piece.first() {
+            self.first_bytes = self.first_bytes.wrapping_add(*byte);
+        }
+        Ok(())
+    }
+
+    fn show(self, out: &mut [u8]) -> usize {
+        if let Some(byte) = out.first_mut() {
+            *byte = self.first_bytes;
+        }
+        self.len
+    }
+}
+
 fn show(bytes: &[u8], out: &mut [u8]) -> usize {
     let len = bytes.len().min(out.len());
     out[..len].copy_from_slice(&bytes[..len]);
@@ -51,6 +76,21 @@ pub fn base64_feed(input: &[u8], out: &mut [u8]) -> usize {
     buffer.len
 }
 
+/// Feeds parts of `SIZE` bytes.
+pub fn base64_feed_summed<const SIZE: usize>(input: &[u8], out: &mut [u8]) -> usize {
+    let mut sum = Sum::default();
+    let mut decoder = Decoder::new(|piece: &[u8]| sum.add(piece));
+    for part in input.chunks(SIZE) {
+        if decoder.feed(part).is_err() {
+            return REFUSED;
+        }
+    }
+    match decoder.finish() {
+        Ok(()) => sum.show(out),
+        Err(_) => REFUSED,
+    }
+}
+
 pub fn process(text: &[u8], _: &mut [u8]) -> usize {
     match DataUrl::process(text_of(text)) {
         Ok(url) => url.mime_type().parameters.len(),
@@ -72,6 +112,17 @@ pub fn decode(text: &[u8], out: &mut [u8]) -> usize {
     let mut buffer = Buffer { room: out, len: 0 };
     match url.decode(|piece: &[u8]| buffer.append(piece)) {
         Ok(_) => buffer.len,
+        Err(_) => REFUSED,
+    }
+}
+
+pub fn decode_summed(text: &[u8], out: &mut [u8]) -> usize {
+    let Ok(url) = DataUrl::process(text_of(text)) else {
+        return REFUSED;
+    };
+    let mut sum = Sum::default();
+    match url.decode(|piece: &[u8]| sum.add(piece)) {
+        Ok(_) => sum.show(out),
         Err(_) => REFUSED,
     }
 }

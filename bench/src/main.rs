@@ -1,18 +1,23 @@
-//! Times a public call of the library beside the same call of the Rust crate `data-url`, or with the feature `against` of the
-//! library of another commit.
+//! Times a public call of the library beside the same call of the Rust crate `data-url`, or with the feature `against`
+//! of the library of another commit. With the feature `bindings`, other bindings for Rust are in the crate's place, and
+//! only the rows of bindings are timed.
 //!
-//!     bench                 writes the names of the rows, a line each, and after a tab `slow` where one call takes seconds
-//!     bench NAME            writes the bytes of a text of a row, how often it was faster than its counterpart, and the
-//!                           nanoseconds of a call of each
+//!     bench                 writes the names of the rows, a line each, and after a tab `slow` where one call takes
+//!                           seconds
+//!     bench NAME            writes the bytes of a text of a row, how often it was faster than its counterpart, and
+//!                           the nanoseconds of a call of each
 //!
-//! A row is as many texts of its kind, each from another seed, as have some 300 KB, and at most 150. In a round all are passed to
-//! the one library and then to the other. So no text comes twice in a round, and the processor learns less of its branches than of
-//! one text. What is written are medians over the rounds, so a busy machine slows all of a round alike.
+//! A row is as many texts of its kind, each from another seed, as have some 300 KB, and at most 1,000. In a round all
+//! are passed to the one library and then to the other. So no text comes twice in a round, and the processor learns
+//! less of its branches than of one text. What is written are medians over the rounds, so a busy machine slows all of a
+//! round alike.
 
 mod rows;
+mod shapes;
 mod texts;
 
 /// The calls of the library as it is. `bench/calls` gave its symbols a prefix.
+#[cfg(not(feature = "bindings"))]
 mod ours {
     macro_rules! symbol {
         ($export:ident) => {
@@ -20,6 +25,13 @@ mod ours {
         };
     }
     include!("ours.rs");
+}
+
+/// With the feature `bindings`, that library is not linked. Rows of it are made with these calls, and left out.
+#[cfg(feature = "bindings")]
+mod ours {
+    use proved as library;
+    include!("calls.rs");
 }
 
 /// The calls of the library of another commit, whose symbols have another prefix.
@@ -55,7 +67,7 @@ use texts::Numbers;
 
 /// How many bytes the texts of a row have, about, and how many texts there are at most.
 const BYTES: usize = 300_000;
-const TEXTS: usize = 150;
+const TEXTS: usize = 1000;
 
 /// How many rounds are timed at least and at most, and for how long the rounds between these go on.
 const ROUNDS: std::ops::Range<usize> = 15..301;
@@ -95,12 +107,18 @@ fn compare(row: &Row, texts: &[Vec<u8>]) {
     for text in texts {
         let mut ours = vec![0; text.len() + 4096];
         let mut theirs = ours.clone();
-        for (mine, other) in [(row.ours, row.theirs), (row.shows_ours, row.shows_theirs)] {
-            let (len, their_len) = (mine(text, &mut ours), other(text, &mut theirs));
+        let timed = ((row.ours)(text, &mut ours), (row.theirs)(text, &mut theirs));
+        ours.fill(0);
+        theirs.fill(0);
+        let shown = (
+            (row.shows_ours)(text, &mut ours),
+            (row.shows_theirs)(text, &mut theirs),
+        );
+        for (len, their_len) in [timed, shown] {
             assert_eq!(len, their_len, "{}: how many bytes", row.name);
             assert_ne!(len, usize::MAX, "{}: refused", row.name);
-            assert!(ours == theirs, "{}: the bytes", row.name);
         }
+        assert!(ours == theirs, "{}: the bytes", row.name);
     }
 }
 

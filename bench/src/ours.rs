@@ -19,16 +19,33 @@ exports! {
     base64_feed = data_url_base64_feed;
     process_mime = data_url_process_mime;
     decode = data_url_decode;
+    decode_summed = data_url_decode_summed;
     decode_to_vec = data_url_decode_to_vec;
     fragment = data_url_fragment;
     mime_printed = data_url_mime_printed;
 }
 
 extern "C" {
+    #[link_name = symbol!(data_url_base64_feed_summed)]
+    fn data_url_base64_feed_summed(
+        input: *const u8,
+        len: usize,
+        size: usize,
+        out: *mut u8,
+        room: usize,
+    ) -> usize;
     #[link_name = symbol!(data_url_process)]
     fn data_url_process(text: *const u8, len: usize) -> usize;
     #[link_name = symbol!(data_url_mime)]
     fn data_url_mime(text: *const u8, len: usize) -> usize;
+}
+
+/// Feeds parts of `SIZE` bytes.
+pub fn base64_feed_summed<const SIZE: usize>(input: &[u8], out: &mut [u8]) -> usize {
+    let (len, room) = (input.len(), out.len());
+    unsafe {
+        data_url_base64_feed_summed(input.as_ptr(), len, SIZE, out.as_mut_ptr(), room)
+    }
 }
 
 pub fn process(text: &[u8], _: &mut [u8]) -> usize {

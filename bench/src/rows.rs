@@ -1,11 +1,13 @@
 //! The rows of the table: the call that each times, and how its texts are made.
 
+use crate::shapes::push_shapes;
 use crate::texts::{
     base64, base64_with_escapes, escaped, fragment, growing_names, indented, lone_percents,
     names_that_end_alike, numbered_names, quoted, quoted_letters, quoted_quotes, raw_svg, svg, url,
     wrapped, Lines, Numbers,
 };
 use crate::{ours, theirs, Call};
+use std::collections::HashSet;
 
 type Make = Box<dyn Fn(&mut Numbers) -> Vec<u8>>;
 
@@ -14,7 +16,7 @@ pub struct Row {
     pub make: Make,
     pub ours: Call,
     pub theirs: Call,
-    /// Calls that return the result of the timed ones, if those return nothing.
+    /// Calls that return the result of the timed ones, if those return only a number.
     pub shows_ours: Call,
     pub shows_theirs: Call,
     /// Whether the timed call is passed an output, since its closure writes to it.
@@ -29,11 +31,11 @@ const SIZES: [(usize, &str); 3] = [(1 << 10, "1K"), (1 << 16, "64K"), (1 << 22, 
 const SOME: usize = 8000;
 
 #[derive(Default)]
-struct Table(Vec<Row>);
+pub struct Table(Vec<Row>);
 
 impl Table {
     /// Adds a row of two calls that return their results.
-    fn push(
+    pub fn push(
         &mut self,
         name: String,
         make: impl Fn(&mut Numbers) -> Vec<u8> + 'static,
@@ -178,7 +180,7 @@ fn push_base64(table: &mut Table) {
     });
 }
 
-fn base64_url(body: &[u8]) -> Vec<u8> {
+pub fn base64_url(body: &[u8]) -> Vec<u8> {
     url("image/png;base64", body)
 }
 
@@ -222,7 +224,7 @@ fn push_base64_urls(table: &mut Table) {
     }
 }
 
-fn plain_url(body: &[u8]) -> Vec<u8> {
+pub fn plain_url(body: &[u8]) -> Vec<u8> {
     url("text/plain", body)
 }
 
@@ -556,5 +558,13 @@ pub fn rows() -> Vec<Row> {
     push_fragments(&mut table);
     #[cfg(not(feature = "against"))]
     push_bindings(&mut table);
-    table.0
+    push_shapes(&mut table);
+    let mut rows = table.0;
+    if cfg!(feature = "bindings") {
+        rows.retain(|row| row.name.starts_with("bindings "));
+    }
+    // Some of the shapes are in other tables too.
+    let mut names = HashSet::new();
+    rows.retain(|row| names.insert(row.name.clone()));
+    rows
 }

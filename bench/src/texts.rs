@@ -169,6 +169,30 @@ pub fn svg(numbers: &mut Numbers, len: usize) -> Vec<u8> {
     text
 }
 
+/// A percent-encoded icon of about `len` bytes. The stretches between its escapes are as long as in the style sheets of
+/// Debian packages, so some 44 of 100 bytes are in escapes.
+pub fn icon(numbers: &mut Numbers, len: usize) -> Vec<u8> {
+    let escapes = b" \"=<>/ \" \":#,";
+    let letters = b"abcdefghijklmnopqrstuvwxyz0123456789.-0123456789.-";
+    let mut text = vec![];
+    while text.len() < len {
+        let escape = escapes[numbers.below(escapes.len())];
+        text.extend(format!("%{escape:02X}").bytes());
+        let stretch = match numbers.below(100) {
+            0..=29 => 0,
+            30..=44 => 1,
+            45..=54 => 2,
+            55..=60 => 3,
+            61..=70 => 4,
+            71..=80 => 5,
+            81..=95 => 6 + numbers.below(7),
+            _ => 13 + numbers.below(28),
+        };
+        text.extend((0..stretch).map(|_| letters[numbers.below(letters.len())]));
+    }
+    text
+}
+
 /// A drawing in which `#` alone is percent-encoded.
 pub fn raw_svg(numbers: &mut Numbers, len: usize) -> Vec<u8> {
     let mut text = b"<svg xmlns='http://www.w3.org/2000/svg' viewBox='0 0 24 24'>".to_vec();
@@ -230,8 +254,8 @@ pub fn growing_names(numbers: &mut Numbers, count: usize) -> Vec<u8> {
     with_names((1..=count).map(|len| letter.repeat(len)))
 }
 
-/// A MIME type with a quoted value of about `len` bytes. One of `every` is a `\` with the byte that it escapes. With `every`
-/// at 0, there is none.
+/// A MIME type with a quoted value of about `len` bytes. One of `every` is a `\` with the byte that it escapes. With
+/// `every` at 0, there is none.
 pub fn quoted(numbers: &mut Numbers, len: usize, every: usize) -> Vec<u8> {
     let mut text = b"a/b;c=\"".to_vec();
     while text.len() < len {

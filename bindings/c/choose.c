@@ -77,7 +77,6 @@ static bool is_v3(void) {
     FORWARD(result, name, (struct state *at, bytes text, size_t len, uint8_t *out, size_t room), (at, text, len, out, room))
 
 FORWARD_TEXT(struct data_url_answer, dataurl_body)
-FORWARD_TEXT(struct data_url_answer, dataurl_body_utf8)
 FORWARD_TEXT(struct data_url_answer, dataurl_mime)
 FORWARD_TEXT(struct data_url_answer, dataurl_fragment)
 FORWARD_TEXT(struct data_url_answer, dataurl_type)
@@ -87,9 +86,6 @@ FORWARD_TEXT(struct data_url_opened, dataurl_open)
 FORWARD_TEXT(struct data_url_opened, dataurl_open_utf8)
 FORWARD_TEXT(struct data_url_opened, dataurl_open_parts_utf8)
 FORWARD_PART(struct data_url_answer, dataurl_body_next, data_url_body_state)
-FORWARD_PART(struct data_url_answer, dataurl_body_next_utf8, data_url_body_state)
 FORWARD_PART(struct data_url_fed, dataurl_base64_feed, data_url_base64_state)
 FORWARD(struct data_url_answer, dataurl_base64_finish,
         (struct data_url_base64_state *state, uint8_t *out, size_t room), (state, out, room))
-FORWARD(struct data_url_answer, dataurl_tail_utf8,
-        (bytes tail, size_t len, bool is_base64, uint8_t *out, size_t room), (tail, len, is_base64, out, room))

@@ -264,9 +264,9 @@ struct data_url_body_state {
  * tail, len   the tail: url + opened.tail, opened.tail_len
  * out, room   receives the next bytes; the room may differ from call to call, and must be 8 or more. 4 KiB are fast
  * Returns DATA_URL_MORE; DATA_URL_DONE with the last bytes; a fault of base64, with the bytes before it;
- * DATA_URL_OUTPUT_TOO_SMALL if the room is less than 8; DATA_URL_NOT_UTF8 if the tail is not UTF-8; DATA_URL_BAD_STATE if
- * the state was changed by something else, or the body has ended. With the last three the length is 0, and the state stays as
- * it was. */
+ * DATA_URL_OUTPUT_TOO_SMALL if the room is less than 8; DATA_URL_BAD_STATE if the state was changed by something else, or the
+ * body has ended. With the last two the length is 0, and the state stays as it was. A tail that is not UTF-8 is decoded as the
+ * bytes that it is. */
 struct data_url_answer data_url_body_next(
     struct data_url_body_state *state, const void *tail, size_t len, void *out, size_t room);
 

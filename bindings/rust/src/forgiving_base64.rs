@@ -1,33 +1,48 @@
-//! <https://infra.spec.whatwg.org/#forgiving-base64-decode>
+//! Base64 as the Infra Standard decodes it: <https://infra.spec.whatwg.org/#forgiving-base64-decode>
 
-use crate::library::{self, Base64, Room};
+use crate::library::{self, Base64, Room, DONE};
+use crate::{ROOM, SHORT};
 use alloc::vec::Vec;
 use core::fmt;
 
 /// Why a text is not valid base64.
 #[derive(Debug)]
-pub struct InvalidBase64(InvalidBase64Details);
+pub struct InvalidBase64(Fault);
 
+/// The kinds of faults. `Debug` prints their names.
 #[derive(Clone, Copy, Debug)]
-pub(crate) enum InvalidBase64Details {
-    UnexpectedSymbol(u8),
-    AlphabetSymbolAfterPadding,
-    LoneAlphabetSymbol,
+enum Fault {
     Padding,
+    LoneAlphabetSymbol,
+    AlphabetSymbolAfterPadding,
+    UnexpectedSymbol(u8),
+}
+
+impl InvalidBase64 {
+    /// The fault that a status names.
+    pub(crate) fn of(status: u32) -> InvalidBase64 {
+        InvalidBase64(match status {
+            library::PADDING => Fault::Padding,
+            library::LONE_SYMBOL => Fault::LoneAlphabetSymbol,
+            library::SYMBOL_AFTER_PADDING => Fault::AlphabetSymbolAfterPadding,
+            status if status >= library::UNEXPECTED_SYMBOL => {
+                Fault::UnexpectedSymbol((status - library::UNEXPECTED_SYMBOL) as u8)
+            }
+            status => unreachable!("status {}", status),
+        })
+    }
 }
 
 impl fmt::Display for InvalidBase64 {
     fn fmt(&self, f: &mut fmt::Formatter<'_>) -> fmt::Result {
-        match self.0 {
-            InvalidBase64Details::UnexpectedSymbol(code_point) => {
-                write!(f, "symbol with codepoint {} not expected", code_point)
+        f.write_str(match self.0 {
+            Fault::Padding => "incorrect padding",
+            Fault::LoneAlphabetSymbol => "lone alphabet symbol present",
+            Fault::AlphabetSymbolAfterPadding => "alphabet symbol present after padding",
+            Fault::UnexpectedSymbol(byte) => {
+                return write!(f, "symbol with codepoint {} not expected", byte)
             }
-            InvalidBase64Details::AlphabetSymbolAfterPadding => {
-                write!(f, "alphabet symbol present after padding")
-            }
-            InvalidBase64Details::LoneAlphabetSymbol => write!(f, "lone alphabet symbol present"),
-            InvalidBase64Details::Padding => write!(f, "incorrect padding"),
-        }
+        })
     }
 }
 
@@ -45,38 +60,16 @@ pub enum DecodeError<E> {
 
 impl<E: fmt::Display> fmt::Display for DecodeError<E> {
     fn fmt(&self, f: &mut fmt::Formatter<'_>) -> fmt::Result {
-        match self {
-            Self::InvalidBase64(inner) => write!(f, "base64 not valid: {}", inner),
-            Self::WriteError(err) => write!(f, "write error: {}", err),
-        }
+        let (what, why): (_, &dyn fmt::Display) = match self {
+            DecodeError::InvalidBase64(fault) => ("base64 not valid", fault),
+            DecodeError::WriteError(error) => ("write error", error),
+        };
+        write!(f, "{}: {}", what, why)
     }
 }
 
 #[cfg(feature = "std")]
 impl<E: std::error::Error> std::error::Error for DecodeError<E> {}
-
-impl<E> From<InvalidBase64Details> for DecodeError<E> {
-    fn from(details: InvalidBase64Details) -> Self {
-        DecodeError::InvalidBase64(InvalidBase64(details))
-    }
-}
-
-/// Returns the fault of a status.
-pub(crate) fn details(status: u32) -> InvalidBase64Details {
-    match status {
-        library::PADDING => InvalidBase64Details::Padding,
-        library::LONE_SYMBOL => InvalidBase64Details::LoneAlphabetSymbol,
-        library::SYMBOL_AFTER_PADDING => InvalidBase64Details::AlphabetSymbolAfterPadding,
-        status if status >= library::UNEXPECTED_SYMBOL => {
-            InvalidBase64Details::UnexpectedSymbol((status - library::UNEXPECTED_SYMBOL) as u8)
-        }
-        status => unreachable!("status {}", status),
-    }
-}
-
-pub(crate) fn invalid(status: u32) -> InvalidBase64 {
-    InvalidBase64(details(status))
-}
 
 /// Decodes a whole text.
 ///
@@ -85,8 +78,8 @@ pub(crate) fn invalid(status: u32) -> InvalidBase64 {
 /// `InvalidBase64` if the text is not valid base64.
 pub fn decode_to_vec(input: &[u8]) -> Result<Vec<u8>, InvalidBase64> {
     match library::base64(input) {
-        (library::DONE, bytes) => Ok(bytes),
-        (status, _) => Err(invalid(status)),
+        (DONE, bytes) => Ok(bytes),
+        (fault, _) => Err(InvalidBase64::of(fault)),
     }
 }
 
@@ -95,10 +88,10 @@ pub struct Decoder<F, E>
 where
     F: FnMut(&[u8]) -> Result<(), E>,
 {
-    write_bytes: F,
     state: Base64,
-    // After a fault, what it was.
-    fault: Option<InvalidBase64Details>,
+    /// `DONE`, or the first fault.
+    status: u32,
+    write_bytes: F,
 }
 
 impl<F, E> Decoder<F, E>
@@ -107,41 +100,58 @@ where
 {
     /// Returns a decoder that has seen no text.
     pub fn new(write_bytes: F) -> Self {
-        Self {
-            write_bytes,
+        Decoder {
             state: Base64::new(),
-            fault: None,
+            status: DONE,
+            write_bytes,
         }
     }
 
-    /// Feeds the next part of the text. Calls the closure with the bytes of the groups of four symbols that it completes.
+    /// Feeds the next part of the text. Calls the closure with the bytes of the groups of four symbols that it
+    /// completes.
     ///
     /// # Errors
     ///
     /// `WriteError` with the closure's error. `InvalidBase64` at the first fault, after the closure was called with the
     /// bytes before it.
     ///
-    /// A decoder that is fed after a fault returns it again. After a `WriteError` the decoder does not call the closure again with
-    /// the bytes that it refused, and the rest of the input of that call is lost: do not feed it any more.
+    /// A decoder that is fed after a fault returns it again. After a `WriteError` the decoder does not call the closure
+    /// again with the bytes that it refused, and the rest of the input of that call is lost: do not feed it any more.
     pub fn feed(&mut self, input: &[u8]) -> Result<(), DecodeError<E>> {
-        let mut room = Room::<{ crate::ROOM }>::new();
+        if input.len() < SHORT {
+            self.feed_through::<SHORT>(input)
+        } else {
+            self.feed_long(input)
+        }
+    }
+
+    /// Feeds as `feed` does, through the larger buffer, which is not on the stack where a short part is fed.
+    #[inline(never)]
+    fn feed_long(&mut self, input: &[u8]) -> Result<(), DecodeError<E>> {
+        self.feed_through::<ROOM>(input)
+    }
+
+    /// Feeds as `feed` does, through a buffer of `N` bytes.
+    #[inline(always)]
+    fn feed_through<const N: usize>(&mut self, input: &[u8]) -> Result<(), DecodeError<E>> {
+        let mut room = Room::<N>::new();
         let mut rest = input;
-        while !rest.is_empty() {
-            if let Some(fault) = self.fault {
-                return Err(fault.into());
-            }
+        while self.status == DONE && !rest.is_empty() {
             let (status, bytes, read) = self.state.feed(rest, &mut room);
-            if status != library::DONE {
-                self.fault = Some(details(status));
-            }
+            self.status = status;
             rest = &rest[read..];
             if !bytes.is_empty() {
                 (self.write_bytes)(bytes).map_err(DecodeError::WriteError)?;
             }
         }
-        match self.fault {
-            Some(fault) => Err(fault.into()),
-            None => Ok(()),
+        self.ended()
+    }
+
+    /// Returns the first fault, if there was one.
+    fn ended(&self) -> Result<(), DecodeError<E>> {
+        match self.status {
+            DONE => Ok(()),
+            fault => Err(DecodeError::InvalidBase64(InvalidBase64::of(fault))),
         }
     }
 
@@ -151,17 +161,13 @@ where
     ///
     /// `InvalidBase64` if the text is not valid, and `WriteError` with the closure's error.
     pub fn finish(mut self) -> Result<(), DecodeError<E>> {
-        if let Some(fault) = self.fault {
-            return Err(fault.into());
-        }
+        self.ended()?;
         let mut room = Room::<4>::new();
         let (status, bytes) = self.state.finish(&mut room);
-        if status != library::DONE {
-            return Err(details(status).into());
+        self.status = status;
+        if !bytes.is_empty() {
+            (self.write_bytes)(bytes).map_err(DecodeError::WriteError)?;
         }
-        if bytes.is_empty() {
-            return Ok(());
-        }
-        (self.write_bytes)(bytes).map_err(DecodeError::WriteError)
+        self.ended()
     }
 }

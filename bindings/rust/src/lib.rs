@@ -1,6 +1,5 @@
-//! Processing of `data:` URLs according to the Fetch Standard, over a library whose calls are proved:
-//! <https://fetch.spec.whatwg.org/#data-urls>
-//! but starting from a string rather than a parsed URL to avoid extra copies.
+//! Data URLs, read as the Fetch Standard says (<https://fetch.spec.whatwg.org/#data-urls>), over a library whose calls
+//! are proved. What is read is a text, not a URL that a parser made of it.
 //!
 //! Its names are those of the crate `data-url` 0.3.2, so it can take that crate's place. In `Cargo.toml`, one of:
 //!
@@ -13,15 +12,18 @@
 //! data-url = { git = "file:///.../checkout" }
 //! ```
 //!
+//! The module [`parts`] is not in the crate: it has a body that is read in parts, with `std::io::Read` or without.
+//!
 //! # Platforms
 //!
-//! Linux on x86-64 with SSE4.2 and POPCNT (any processor since about 2009), and on 64-bit ARM. The library is built for these, and
-//! linked as it is; no other tool than cargo is needed. On a processor with AVX2 (x86-64-v3) its calls use that. On one without
-//! SSE4.2 or POPCNT the first call panics with a message that says so.
+//! Linux on x86-64 with SSE4.2 and POPCNT (any processor since about 2009), and on 64-bit ARM. The library is built for
+//! these, and linked as it is; no other tool than cargo is needed. On a processor with AVX2 (x86-64-v3) its calls use
+//! that. On one without SSE4.2 or POPCNT the first call panics with a message that says so.
 //!
 //! # What differs from the crate
 //!
-//! - Where the crate does not follow the Fetch Standard, the answers are those of the Standard. `docs/DIFFERENCES.md` lists them.
+//! - Where the crate does not follow the Fetch Standard, the answers are those of the Standard. `docs/DIFFERENCES.md`
+//!   lists them.
 //! - [`DataUrl::decode`] calls the closure with pieces of at most 8 KiB, and allocates nothing.
 //! - A [`forgiving_base64::Decoder`] that is fed after a fault returns the fault again.
 //! - If allocation fails, the program ends as with Rust's own types.
@@ -29,15 +31,13 @@
 //! # Example
 //!
 //! ```rust
-//! use data_url::{DataUrl, mime};
+//! let url = data_url::DataUrl::process("data:text/csv;charset=utf-8,name%0AZo%C3%AB#first-row").unwrap();
+//! assert!(url.mime_type().matches("text", "csv"));
+//! assert_eq!(url.mime_type().get_parameter("charset"), Some("utf-8"));
 //!
-//! let url = DataUrl::process("data:,Hello%20World!").unwrap();
-//! let (body, fragment) = url.decode_to_vec().unwrap();
-//!
-//! assert!(url.mime_type().matches("text", "plain"));
-//! assert_eq!(url.mime_type().get_parameter("charset"), Some("US-ASCII"));
-//! assert_eq!(body, b"Hello World!");
-//! assert!(fragment.is_none());
+//! let (table, fragment) = url.decode_to_vec().unwrap();
+//! assert_eq!(table, "name\nZo\u{eb}".as_bytes());
+//! assert_eq!(fragment.unwrap().to_percent_encoded(), "first-row");
 //! ```
 #![no_std]
 #![deny(missing_docs)]
@@ -58,25 +58,22 @@ use core::fmt;
 pub mod forgiving_base64;
 mod library;
 pub mod mime;
+pub mod parts;
 
 use forgiving_base64::{DecodeError, InvalidBase64};
+use library::{Body, Room, DONE, MORE};
 
-/// How many bytes are searched at a time for a `#`.
-const PART: usize = 256;
-
-/// How many bytes of a body are decoded before the closure is called with them.
+/// How many bytes are decoded at most before a closure is called with them.
 const ROOM: usize = 8192;
 
-/// How many bytes a tail has at least whose body is decoded by one call for the whole URL, which reads the header again and is
-/// faster on long bodies.
-const LONG: usize = 512;
+/// A text of fewer bytes than this is decoded into a buffer of this many bytes, in place of `ROOM`.
+const SHORT: usize = 512;
 
-/// A data: URL: its text, its MIME type, and its body and fragment as a slice of the text.
+/// A data: URL: its MIME type, whether its body is base64, and the text after its comma: the body and the fragment.
 pub struct DataUrl<'a> {
-    input: &'a str,
     mime_type: mime::Mime,
-    base64: bool,
-    encoded_body_plus_fragment: &'a str,
+    is_base64: bool,
+    tail: &'a str,
 }
 
 /// Why a text is not a data: URL.
@@ -90,13 +87,10 @@ pub enum DataUrlError {
 
 impl fmt::Display for DataUrlError {
     fn fmt(&self, f: &mut fmt::Formatter<'_>) -> fmt::Result {
-        match self {
-            Self::NotADataUrl => write!(f, "not a valid data url"),
-            Self::NoComma => write!(
-                f,
-                "data url is missing comma delimiting attributes and body"
-            ),
-        }
+        f.write_str(match self {
+            DataUrlError::NotADataUrl => "not a valid data url",
+            DataUrlError::NoComma => "data url is missing comma delimiting attributes and body",
+        })
     }
 }
 
@@ -112,11 +106,10 @@ impl<'a> DataUrl<'a> {
     /// `NotADataUrl` if the text does not begin with `data:`, and `NoComma` if there is no comma before the fragment.
     pub fn process(input: &'a str) -> Result<Self, DataUrlError> {
         match library::open(input, mime::Mime::of_url) {
-            Ok((mime_type, base64, encoded_body_plus_fragment)) => Ok(DataUrl {
-                input,
+            Ok((mime_type, is_base64, tail)) => Ok(DataUrl {
                 mime_type,
-                base64,
-                encoded_body_plus_fragment,
+                is_base64,
+                tail,
             }),
             Err(library::NOT_A_DATA_URL) => Err(DataUrlError::NotADataUrl),
             Err(library::NO_COMMA) => Err(DataUrlError::NoComma),
@@ -135,38 +128,54 @@ impl<'a> DataUrl<'a> {
     ///
     /// # Errors
     ///
-    /// `WriteError` with the closure's error, which is not called again. `InvalidBase64` if the body is base64 that is not
-    /// valid, after the closure was called with the bytes before the first fault.
+    /// `WriteError` with the closure's error, which is not called again. `InvalidBase64` if the body is base64 that is
+    /// not valid, after the closure was called with the bytes before the first fault.
     pub fn decode<F, E>(
+        &self,
+        write_body_bytes: F,
+    ) -> Result<Option<FragmentIdentifier<'a>>, DecodeError<E>>
+    where
+        F: FnMut(&[u8]) -> Result<(), E>,
+    {
+        if self.tail.len() < SHORT {
+            self.decode_through::<F, E, SHORT>(write_body_bytes)
+        } else {
+            self.decode_long(write_body_bytes)
+        }
+    }
+
+    /// Decodes as `decode` does, through the larger buffer, which is not on the stack where a short body is decoded.
+    #[inline(never)]
+    fn decode_long<F, E>(
+        &self,
+        write_body_bytes: F,
+    ) -> Result<Option<FragmentIdentifier<'a>>, DecodeError<E>>
+    where
+        F: FnMut(&[u8]) -> Result<(), E>,
+    {
+        self.decode_through::<F, E, ROOM>(write_body_bytes)
+    }
+
+    /// Decodes as `decode` does, through a buffer of `N` bytes.
+    #[inline(always)]
+    fn decode_through<F, E, const N: usize>(
         &self,
         mut write_body_bytes: F,
     ) -> Result<Option<FragmentIdentifier<'a>>, DecodeError<E>>
     where
         F: FnMut(&[u8]) -> Result<(), E>,
     {
-        let tail = self.encoded_body_plus_fragment;
-        if tail.len() < LONG {
-            let mut room = library::Room::<LONG>::new();
-            let (status, bytes) = library::short_body(tail, self.base64, &mut room);
-            if !bytes.is_empty() {
-                write_body_bytes(bytes).map_err(DecodeError::WriteError)?;
-            }
-            return match status {
-                library::DONE => Ok(self.fragment()),
-                status => Err(forgiving_base64::details(status).into()),
-            };
-        }
-        let mut body = library::Body::new(self.base64);
-        let mut room = library::Room::<ROOM>::new();
+        let mut body = Body::new(self.is_base64);
+        let mut room = Room::<N>::new();
         loop {
-            let (status, bytes) = body.next(tail, &mut room);
+            let (status, bytes) = body.next(self.tail, &mut room);
             if !bytes.is_empty() {
                 write_body_bytes(bytes).map_err(DecodeError::WriteError)?;
             }
             match status {
-                library::MORE => {}
-                library::DONE => return Ok(self.fragment()),
-                status => return Err(forgiving_base64::details(status).into()),
+                MORE => {}
+                DONE => return Ok(FragmentIdentifier::after(self.tail, &body)),
+                fault => return Err(DecodeError::InvalidBase64(InvalidBase64::of(fault))),
             }
         }
     }
@@ -179,57 +188,31 @@ impl<'a> DataUrl<'a> {
     pub fn decode_to_vec(
         &self,
     ) -> Result<(Vec<u8>, Option<FragmentIdentifier<'a>>), InvalidBase64> {
-        match self.body() {
-            (library::DONE, bytes) if self.is_whole(bytes.len()) => Ok((bytes, None)),
-            (library::DONE, bytes) => Ok((bytes, self.fragment())),
-            (status, _) => Err(forgiving_base64::invalid(status)),
+        let mut body = Body::new(self.is_base64);
+        match body.whole(self.tail) {
+            (DONE, bytes) => Ok((bytes, FragmentIdentifier::after(self.tail, &body))),
+            (fault, _) => Err(InvalidBase64::of(fault)),
         }
-    }
-
-    /// Whether a body of this length uses every byte after the comma, so that none of them is a `#`.
-    fn is_whole(&self, len: usize) -> bool {
-        let tail = self.encoded_body_plus_fragment;
-        if self.base64 {
-            len % 3 == 0 && len / 3 * 4 == tail.len()
-        } else {
-            len == tail.len()
-        }
-    }
-
-    /// The body's status, and the bytes that come before a fault.
-    fn body(&self) -> (u32, Vec<u8>) {
-        let tail = self.encoded_body_plus_fragment;
-        if tail.is_empty() {
-            return (library::DONE, Vec::new());
-        }
-        if tail.len() >= LONG {
-            return library::body(self.input, tail.len());
-        }
-        library::short_body_to_vec(tail, self.base64)
-    }
-
-    fn fragment(&self) -> Option<FragmentIdentifier<'a>> {
-        let tail = self.encoded_body_plus_fragment;
-        // Stretches without a `#` are skipped, many bytes at a time.
-        let is_there = |part: &[u8]| part.iter().fold(false, |seen, byte| seen | (*byte == b'#'));
-        let part = tail.as_bytes().chunks(PART).position(is_there)?;
-        let place = part * PART
-            + tail.as_bytes()[part * PART..]
-                .iter()
-                .position(|byte| *byte == b'#')?;
-        Some(FragmentIdentifier(&tail[place + 1..]))
     }
 }
 
 /// The fragment of a data: URL, the text after `#`.
 pub struct FragmentIdentifier<'a>(&'a str);
 
+impl<'a> FragmentIdentifier<'a> {
+    /// The text after the `#` at which a body ended, if it ended at one and not with the tail.
+    #[inline]
+    fn after(tail: &'a str, body: &Body) -> Option<Self> {
+        tail.get(body.end() + 1..).map(FragmentIdentifier)
+    }
+}
+
 impl FragmentIdentifier<'_> {
     /// Returns the fragment as the URL parser leaves it, percent-encoded.
     /// <https://url.spec.whatwg.org/#fragment-state>
     pub fn to_percent_encoded(&self) -> String {
-        // The library encodes the fragments of URLs. A fragment has no white space at its end, so nothing is trimmed here. With
-        // this header, the library makes a short record, without parameters.
+        // The library encodes the fragments of URLs. A fragment has no white space at its end, so nothing is trimmed
+        // here. With this header, the library makes a short record, without parameters.
         let url = ["data:a/b,#", self.0].concat();
         match library::fragment(&url, str::to_owned) {
             Ok(encoded) => encoded,

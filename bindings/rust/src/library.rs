@@ -18,11 +18,15 @@ pub(crate) const SYMBOL_AFTER_PADDING: u32 = 10;
 pub(crate) const MORE: u32 = 11;
 pub(crate) const UNEXPECTED_SYMBOL: u32 = 256;
 
-/// How many bytes that the library writes fit on the stack. Where there are more, they are written again, into a vector.
+/// How many bytes that the library writes fit on the stack. Where there are more, they are written again, into a
+/// vector.
 const WRITTEN: usize = 256;
 
 /// How many bytes the length of a part has.
 const LENGTH: usize = 8;
+
+/// How many bytes an output needs at least for the next bytes of a body.
+pub(crate) const LEAST_ROOM: usize = 8;
 
 #[repr(C)]
 pub(crate) struct Answer {
@@ -68,15 +72,7 @@ extern "C" {
     fn dataurl_open_parts_utf8(url: *const u8, len: usize, out: *mut u8, room: usize) -> OpenedUrl;
     fn dataurl_type_parts_utf8(text: *const u8, len: usize, out: *mut u8, room: usize) -> Answer;
     fn dataurl_fragment(url: *const u8, len: usize, out: *mut u8, room: usize) -> Answer;
-    fn dataurl_body_utf8(url: *const u8, len: usize, out: *mut u8, room: usize) -> Answer;
-    fn dataurl_tail_utf8(
-        tail: *const u8,
-        len: usize,
-        is_base64: bool,
-        out: *mut u8,
-        room: usize,
-    ) -> Answer;
-    fn dataurl_body_next_utf8(
+    fn dataurl_body_next(
         body: *mut Body,
         tail: *const u8,
         len: usize,
@@ -145,8 +141,8 @@ impl<const N: usize> Room<N> {
     }
 }
 
-/// Calls a function with room on the stack and, if the answer does not fit, again with a vector; returns what `read` makes of
-/// the bytes that it wrote.
+/// Calls a function with room on the stack and, if the answer does not fit, again with a vector; returns what `read`
+/// makes of the bytes that it wrote.
 fn written<A, T>(
     call: impl Fn(*mut u8, usize) -> A,
     answer: impl Fn(&A) -> (u32, usize),
@@ -180,7 +176,8 @@ fn text_of(bytes: &[u8]) -> &str {
     unsafe { core::str::from_utf8_unchecked(bytes) }
 }
 
-/// The parts of a MIME type: the type, the subtype, and the name and the value of each parameter. Each comes after its length.
+/// The parts of a MIME type: the type, the subtype, and the name and the value of each parameter. Each comes after its
+/// length.
 pub(crate) struct Parts<'a>(&'a [u8]);
 
 impl Parts<'_> {
@@ -213,8 +210,9 @@ fn refusal(status: u32) -> u32 {
     status
 }
 
-/// Opens a URL: the result of `read` for its MIME type, whether its body is base64, and the text after its comma. `read` gets no
-/// parts if the URL begins with `data:,` in any case: it has no header then, and its type is the default one.
+/// Opens a URL: the result of `read` for its MIME type, whether its body is base64, and the text after its comma.
+/// `read` gets no parts if the URL begins with `data:,` in any case: it has no header then, and its type is the default
+/// one.
 pub(crate) fn open<T>(
     url: &str,
     read: impl Fn(Option<Parts<'_>>) -> T,
@@ -251,46 +249,29 @@ pub(crate) fn fragment<T>(url: &str, read: impl Fn(&str) -> T) -> Result<T, u32>
     )
 }
 
-/// The body of a URL, whole: its status, and the bytes that come before a fault. `room` is at least the length of the text after
-/// the comma, so that the library decodes into the vector itself.
-pub(crate) fn body(url: &str, room: usize) -> (u32, Vec<u8>) {
-    let mut bytes = Vec::with_capacity(room);
-    let answer = unsafe {
-        dataurl_body_utf8(
-            url.as_ptr(),
-            url.len(),
-            bytes.as_mut_ptr(),
-            bytes.capacity(),
-        )
-    };
-    assert!(answer.len <= bytes.capacity());
-    unsafe { bytes.set_len(answer.len) };
-    (refusal(answer.status), bytes)
+/// How many bytes an output needs for all bytes of a text of base64 of this length, so that one call writes them.
+fn room_for_base64(len: usize) -> usize {
+    len / 4 * 3 + LEAST_ROOM
 }
 
-/// Decodes the body of a short tail to `room` bytes at `out`, which have room for the tail. The header is not read again.
-unsafe fn decode_short(tail: &str, is_base64: bool, out: *mut u8, room: usize) -> Answer {
-    let answer = dataurl_tail_utf8(tail.as_ptr(), tail.len(), is_base64, out, room);
-    assert!(answer.status != OUTPUT_TOO_SMALL && answer.len <= room);
+/// Calls a function with the room that a vector has left, which is at least `LEAST_ROOM` bytes. The bytes that it
+/// writes become those of the vector.
+///
+/// # Safety
+///
+/// `len` returns how many bytes the call wrote, from the start of that room.
+unsafe fn append<A>(
+    bytes: &mut Vec<u8>,
+    call: impl FnOnce(*mut u8, usize) -> A,
+    len: impl FnOnce(&A) -> usize,
+) -> A {
+    bytes.reserve(LEAST_ROOM);
+    let room = bytes.capacity() - bytes.len();
+    let answer = call(bytes.as_mut_ptr().add(bytes.len()), room);
+    let len = len(&answer);
+    assert!(len <= room);
+    bytes.set_len(bytes.len() + len);
     answer
-}
-
-/// The body of a short tail: its status, and the bytes that come before a fault.
-pub(crate) fn short_body_to_vec(tail: &str, is_base64: bool) -> (u32, Vec<u8>) {
-    let mut bytes = Vec::with_capacity(tail.len());
-    let answer = unsafe { decode_short(tail, is_base64, bytes.as_mut_ptr(), bytes.capacity()) };
-    unsafe { bytes.set_len(answer.len) };
-    (answer.status, bytes)
-}
-
-/// The body of a short tail, in a buffer that has room for the tail: its status, and the bytes before a fault.
-pub(crate) fn short_body<'r, const N: usize>(
-    tail: &str,
-    is_base64: bool,
-    room: &'r mut Room<N>,
-) -> (u32, &'r [u8]) {
-    let answer = unsafe { decode_short(tail, is_base64, room.as_mut_ptr(), N) };
-    (answer.status, room.written(answer.len))
 }
 
 impl Body {
@@ -305,16 +286,54 @@ impl Body {
         }
     }
 
+    /// Writes the next bytes of the body to the start of `room` bytes at `out`, which are at least `LEAST_ROOM`.
+    #[inline]
+    unsafe fn write_next(&mut self, tail: &str, out: *mut u8, room: usize) -> Answer {
+        dataurl_body_next(self, tail.as_ptr(), tail.len(), out, room)
+    }
+
     /// The next bytes of the body, and the status.
     pub(crate) fn next<'r, const N: usize>(
         &mut self,
         tail: &str,
         room: &'r mut Room<N>,
     ) -> (u32, &'r [u8]) {
-        let answer = unsafe {
-            dataurl_body_next_utf8(self, tail.as_ptr(), tail.len(), room.as_mut_ptr(), N)
-        };
+        let answer = unsafe { self.write_next(tail, room.as_mut_ptr(), N) };
         (answer.status, room.written(answer.len))
+    }
+
+    /// Writes the next bytes of the body to an output of at least `LEAST_ROOM` bytes. Returns the status, and how many
+    /// bytes.
+    pub(crate) fn next_into(&mut self, tail: &str, output: &mut [u8]) -> (u32, usize) {
+        let answer = unsafe { self.write_next(tail, output.as_mut_ptr(), output.len()) };
+        assert!(answer.len <= output.len());
+        (answer.status, answer.len)
+    }
+
+    /// All bytes of the body up to a fault, and the status. The vector is made so that one call has room for them.
+    #[inline]
+    pub(crate) fn whole(&mut self, tail: &str) -> (u32, Vec<u8>) {
+        if tail.is_empty() {
+            return (DONE, Vec::new());
+        }
+        let room = match self.is_base64 {
+            0 => tail.len().max(LEAST_ROOM),
+            _ => room_for_base64(tail.len()),
+        };
+        let mut bytes = Vec::with_capacity(room);
+        loop {
+            let write = |out, room| unsafe { self.write_next(tail, out, room) };
+            let answer = unsafe { append(&mut bytes, write, |answer| answer.len) };
+            if answer.status != MORE {
+                return (answer.status, bytes);
+            }
+        }
+    }
+
+    /// The place in the tail at which a body ended whose last status is `DONE`: that of the `#`, or the tail's length.
+    #[inline]
+    pub(crate) fn end(&self) -> usize {
+        self.from
     }
 }
 
@@ -347,28 +366,25 @@ impl Base64 {
     }
 }
 
-/// The bytes of a whole text of base64: its status, and the bytes that come before a fault.
+/// All bytes of a text of base64 up to a fault, and the status. The vector is made so that one feed has room for them.
 pub(crate) fn base64(input: &[u8]) -> (u32, Vec<u8>) {
-    // A feed with room for three bytes more than its input reads all of it.
-    let mut bytes: Vec<u8> = Vec::with_capacity(input.len() + 4);
-    let mut state = Base64::new();
-    let fed = unsafe {
-        dataurl_base64_feed(
-            &mut state,
-            input.as_ptr(),
-            input.len(),
-            bytes.as_mut_ptr(),
-            bytes.capacity(),
-        )
-    };
-    assert!(fed.len <= bytes.capacity());
-    unsafe { bytes.set_len(fed.len) };
-    if fed.status != DONE {
-        return (fed.status, bytes);
+    if input.is_empty() {
+        return (DONE, Vec::new());
     }
-    assert!(fed.read == input.len());
-    let mut room = Room::<4>::new();
-    let (status, last) = state.finish(&mut room);
-    bytes.extend_from_slice(last);
-    (status, bytes)
+    let mut bytes = Vec::with_capacity(room_for_base64(input.len()));
+    let mut state = Base64::new();
+    let mut rest = input;
+    while !rest.is_empty() {
+        let feed = |out, room| unsafe {
+            dataurl_base64_feed(&mut state, rest.as_ptr(), rest.len(), out, room)
+        };
+        let fed = unsafe { append(&mut bytes, feed, |fed| fed.len) };
+        if fed.status != DONE {
+            return (fed.status, bytes);
+        }
+        rest = &rest[fed.read..];
+    }
+    let finish = |out, room| unsafe { dataurl_base64_finish(&mut state, out, room) };
+    let answer = unsafe { append(&mut bytes, finish, |answer| answer.len) };
+    (answer.status, bytes)
 }

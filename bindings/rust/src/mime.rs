@@ -5,7 +5,7 @@ use alloc::borrow::ToOwned;
 use alloc::string::String;
 use alloc::vec;
 use alloc::vec::Vec;
-use core::fmt::{self, Write};
+use core::fmt;
 use core::str::FromStr;
 
 /// <https://mimesniff.spec.whatwg.org/#mime-type-representation>
@@ -76,42 +76,43 @@ impl Mime {
     }
 }
 
+/// Parses a MIME type as the standard says: <https://mimesniff.spec.whatwg.org/#parsing-a-mime-type>
+impl FromStr for Mime {
+    type Err = MimeParsingError;
+
+    fn from_str(text: &str) -> Result<Mime, MimeParsingError> {
+        library::mime_type(text, Mime::from_parts).map_err(|_| MimeParsingError(()))
+    }
+}
+
 /// The text is not a MIME type.
 #[derive(Debug)]
 pub struct MimeParsingError(());
 
-impl fmt::Display for MimeParsingError {
-    fn fmt(&self, f: &mut fmt::Formatter<'_>) -> fmt::Result {
-        write!(f, "invalid mime type")
-    }
-}
-
 #[cfg(feature = "std")]
 impl std::error::Error for MimeParsingError {}
 
-/// <https://mimesniff.spec.whatwg.org/#parsing-a-mime-type>
-impl FromStr for Mime {
-    type Err = MimeParsingError;
-
-    fn from_str(s: &str) -> Result<Self, Self::Err> {
-        library::mime_type(s, Mime::from_parts).map_err(|_| MimeParsingError(()))
+impl fmt::Display for MimeParsingError {
+    fn fmt(&self, f: &mut fmt::Formatter<'_>) -> fmt::Result {
+        f.write_str("invalid mime type")
     }
 }
 
-/// <https://mimesniff.spec.whatwg.org/#serializing-a-mime-type>
+/// Prints the MIME type as the standard serializes it: <https://mimesniff.spec.whatwg.org/#serializing-a-mime-type>
 impl fmt::Display for Mime {
     fn fmt(&self, f: &mut fmt::Formatter<'_>) -> fmt::Result {
-        f.write_str(&self.type_)?;
-        f.write_str("/")?;
-        f.write_str(&self.subtype)?;
+        write_all(f, &[&self.type_, "/", &self.subtype])?;
         for (name, value) in &self.parameters {
-            f.write_str(";")?;
-            f.write_str(name)?;
-            f.write_str("=")?;
+            write_all(f, &[";", name, "="])?;
             write_value(f, value)?;
         }
         Ok(())
     }
+}
+
+/// Writes texts, one after the other.
+fn write_all(f: &mut fmt::Formatter<'_>, texts: &[&str]) -> fmt::Result {
+    texts.iter().try_for_each(|text| f.write_str(text))
 }
 
 /// Writes a value, in quotes if it is not a token.
@@ -120,13 +121,12 @@ fn write_value(f: &mut fmt::Formatter<'_>, value: &str) -> fmt::Result {
         return f.write_str(value);
     }
     f.write_str("\"")?;
-    for c in value.chars() {
-        if c == '"' || c == '\\' {
-            f.write_str("\\")?;
-        }
-        f.write_char(c)?;
+    let mut from = 0;
+    for (place, _) in value.match_indices(&['"', '\\'][..]) {
+        write_all(f, &[&value[from..place], "\\"])?;
+        from = place;
     }
-    f.write_str("\"")
+    write_all(f, &[&value[from..], "\""])
 }
 
 /// <https://mimesniff.spec.whatwg.org/#http-token-code-point>

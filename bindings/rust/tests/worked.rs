@@ -61,7 +61,7 @@ fn debug_texts_are_short() {
     assert!(format!("{:?}", refusal).len() < 80);
 }
 
-/// A tail of 512 bytes or more is decoded in another way than a shorter one.
+/// A tail of 512 bytes or more is decoded through a larger buffer than a shorter one.
 #[test]
 fn long_tails_are_decoded_as_short_ones() {
     for len in (490..540).chain([65_000]) {

@@ -19,6 +19,7 @@ pub use Rattle.data_url.proofs.header.Stages.{body_of_url, bytes_by_place, bytes
 pub use Rattle.data_url.proofs.header.Stages.{lacks_comma, rest_bytes, scheme_has_no_comma, stages_accepted}
 pub use Rattle.data_url.proofs.header.{Serialising.{suffix_stop}, Stages.{stages_no_comma, stages_no_scheme}}
 pub use Rattle.data_url.proofs.mime.{FirstNames.{test_from_different}, TokenTexts.{every_from_all}}
+pub use Rattle.data_url.proofs.parts.Bodies.{prepend_more}
 pub use Rattle.data_url.proofs.percent.Encoding.{IsBytes, ascii_all, decoded_keeps, two_digits}
 pub use Rattle.data_url.proofs.runs.Runs.{match_alike, match_at_none, match_map, match_none, match_some, prefix_after}
 pub use Rattle.data_url.proofs.runs.Runs.{prefix_none, prefix_trans, run_counts, run_counts_up_to, run_ends}

@@ -1,1 +1,2 @@
 pub mod Decoding
+pub mod Within

@@ -7,3 +7,4 @@ pub mod Holding
 pub mod WholeTexts
 pub mod Spaces
 pub mod Packed
+pub mod Resumed

@@ -13,6 +13,7 @@
 -- What the public functions do:
 --   DataUrl, Decoder, MimeType, Pieces, Looks   what contracts see of each type
 --   Run         the calls of a closure
+--   Parts       what a call of `parts` writes, and what it leaves for the next call
 --   Errors      when each error is returned, and its message
 --   Laws        what the functions of `laws` prove about the definitions above
 --
@@ -27,6 +28,7 @@ pub mod Laws
 pub mod Looks
 pub mod Mime
 pub mod MimeType
+pub mod Parts
 pub mod Percent
 pub mod Pieces
 pub mod Run

@@ -11,6 +11,7 @@ pub mod Kept
 pub mod Lanes
 pub mod Looks
 pub mod Parsing
+pub mod Parts
 pub mod Printing
 pub mod Sets
 pub mod Tail

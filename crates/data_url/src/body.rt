@@ -1,12 +1,12 @@
 //! Bodies: a closure is called with their bytes, piece by piece.
 
 ghost use Rattle.std.specs.{Prelude.{◌+◌, ◌≡◌, ◌≤◌, false, length, true}, Fn.{CalledAt}};
-ghost use Rattle.data_url.specs.Steps.{Chunks.{IsBodyPrefix, IsCallableUntilError, TakesRest}, Holding.{FeedsUnescaped}, Tail.{IsBodyEnd}};
+ghost use Rattle.data_url.specs.Steps.{Chunks.{IsBodyPrefix, IsCallableUntilError, TakesRest, TakesWithin}, Holding.{FeedsUnescaped}, Tail.{IsBodyEnd}};
 ghost use Rattle.data_url.specs.{Fetch.{outcome, plain_body}, DataUrl.{Decodes}, Steps.Whole.{IsBodyInVec}};
-ghost use Rattle.data_url.specs.Decoder.{state_of};
+ghost use Rattle.data_url.specs.{Decoder.{state_of}, Steps.Parts.{DecodesPartOf, DecodesWithin}};
 
-use crate::escapes::{BUFFER_LEN, Pieces};
-use crate::forgiving_base64::{DecodeError, DecodeToVecError, Decoder, room_for};
+use crate::escapes::{BUFFER_LEN, Walk};
+use crate::forgiving_base64::{DecodeError, DecodeToVecError, Decoder, LeftOver, room_for};
 use std::alloc::{AllocError, Global};
 
 /// The most room, in bytes of the text, that is allocated first for a body that is likely to be shorter than its text.
@@ -18,25 +18,46 @@ const FED_AT_ONCE: usize = 4 * 1024;
 /// How many bytes of a long text are looked at before room is allocated for it.
 const PROBED: usize = 4 * 1024;
 
-/// Calls a closure with the rest of a body. Returns the place in the text where the body ends, or the closure's error.
-fn take_rest<F, E>(mut pieces: Pieces<'_>, take: &mut F) -> Result<usize, E>
+/// Calls a closure with the next bytes of a body, at most a number of them. It goes on until the body ends, or until fewer than
+/// `BUFFER_LEN` of that number are left: for less, bytes are not gathered. If the number itself is less, it goes on until none is
+/// left. Returns the closure's error.
+pub(crate) fn take_within<F, E>(walk: &mut Walk<'_>, most: usize, take: &mut F) -> Result<(), E>
 where
     F: FnMut(&[u8]) -> Result<(), E>,
     requires callable { IsCallableUntilError F.FnMut take.old }
-    requires short { pieces.place + length pieces.rest ≤ length pieces.text }
-    ensures { TakesRest (CalledAt F.FnMut) take.old pieces.entry result take.new }
+    requires short { walk.old.place + length walk.old.rest ≤ length walk.old.text }
+    ensures { TakesWithin (CalledAt F.FnMut) take.old walk.old most result take.new walk.new }
 {
-    if pieces.has_ended() {
-        return Ok(pieces.end());
+    if walk.has_ended() {
+        return Ok(());
     }
     let mut room = [0; BUFFER_LEN];
-    'chunks: while !pieces.has_ended() {
-        let Some(bytes) = pieces.next_bytes(&mut room) else {
-            break 'chunks;
+    let least = if most < BUFFER_LEN { 1 } else { BUFFER_LEN };
+    let mut left = most;
+    'pieces: while !walk.has_ended() {
+        if left < least && left < walk.rest_len() {
+            break 'pieces;
+        }
+        let Some(bytes) = walk.next_bytes(&mut room, left.max(1)) else {
+            break 'pieces;
         };
         take(bytes)?;
+        left -= bytes.len();
     }
-    Ok(pieces.end())
+    Ok(())
+}
+
+/// Calls a closure with the rest of a body. Returns the place in the text where the body ends, or the closure's error.
+fn take_rest<F, E>(mut walk: Walk<'_>, take: &mut F) -> Result<usize, E>
+where
+    F: FnMut(&[u8]) -> Result<(), E>,
+    requires callable { IsCallableUntilError F.FnMut take.old }
+    requires short { walk.place + length walk.rest ≤ length walk.text }
+    ensures { TakesRest (CalledAt F.FnMut) take.old walk.entry result take.new }
+{
+    let most = walk.rest_len();
+    take_within(&mut walk, most, take)?;
+    Ok(walk.end())
 }
 
 /// Decodes a tail up to its first `#` or `%`, in parts of at most 4 KiB, the most that `feed_unescaped` accepts. So the decoder cannot
@@ -63,46 +84,92 @@ where
     Ok(place)
 }
 
-/// Calls a closure with the decoded bytes of a body of base64. Returns the place in the text where the body ends. The text before
-/// its first `%` and `#` is decoded where it is.
-pub(crate) fn decode_base64<F, E>(tail: &str, write: F) -> (Result<usize, DecodeError<E>>, F)
+/// Where decoding a body stopped.
+pub(crate) enum Stop {
+    /// At a place in the tail, from which the body goes on.
+    Paused(usize),
+    /// At the place in the tail where the body ends.
+    Ended(usize),
+}
+
+/// Feeds a decoder the next bytes of a body, at most a number of them; they end as `take_within` says. Ends the text if the body
+/// ends. The text before the first `%` and `#` of the tail is decoded where it is.
+fn decode_within<F, E>(
+    decoder: &mut Decoder<F, E>,
+    tail: &[u8],
+    most: usize,
+) -> Result<Stop, DecodeError<E>>
+where
+    F: FnMut(&[u8]) -> Result<(), E>,
+    requires callable { F.IsAlwaysCallable (state_of decoder.old).closure }
+    requires going { (state_of decoder.old).failed ≡ false }
+    ensures { DecodesWithin (CalledAt F.FnMut) (state_of decoder.old) tail.now most result
+        (state_of decoder.new) }
+{
+    let place = feed_front(decoder, &tail[..tail.len().min(most)])?;
+    let mut walk = Walk::from_place(tail, place);
+    let mut feed = |bytes: &[u8]| -> Result<(), DecodeError<E>>
+        requires callable { F.IsAlwaysCallable (state_of decoder.now).closure }
+        requires going { (state_of decoder.now).failed ≡ false }
+    { decoder.feed(bytes) };
+    take_within(&mut walk, most - place, &mut feed)?;
+    if !walk.has_ended() {
+        return Ok(Stop::Paused(walk.place()));
+    }
+    let end = walk.end();
+    decoder.end()?;
+    Ok(Stop::Ended(end))
+}
+
+/// Calls a closure with the decoded bytes of a body of base64. Returns the place in the text where the body ends.
+pub(crate) fn decode_base64<F, E>(tail: &[u8], write: F) -> (Result<usize, DecodeError<E>>, F)
 where
     F: FnMut(&[u8]) -> Result<(), E>,
     requires callable { F.IsAlwaysCallable write }
-    ensures { Decodes (CalledAt F.FnMut) write (length tail.entry.now + 1)
-        (outcome true (plain_body tail.entry.now)) (IsBodyEnd tail.entry.now) result.0 result.1 }
+    ensures { Decodes (CalledAt F.FnMut) write (length tail.now + 1)
+        (outcome true (plain_body tail.now)) (IsBodyEnd tail.now) result.0 result.1 }
 {
     let mut decoder = Decoder::new(write);
-    let place = match feed_front(&mut decoder, tail.as_bytes()) {
-        Ok(place) => place,
-        Err(error) => return (Err(error), decoder.into_closure()),
-    };
-    let pieces = Pieces::from_place(tail, place);
-    let mut feed = |bytes: &[u8]| -> Result<(), DecodeError<E>>
-        requires callable { F.IsAlwaysCallable (state_of decoder).closure }
-        requires going { (state_of decoder).failed ≡ false }
-    { decoder.feed(bytes) };
-    match take_rest(pieces, &mut feed) {
-        Ok(place) => {
-            let (ended, write) = decoder.finish_with();
-            (ended.map(|()| place), write)
-        }
-        Err(error) => (Err(error), decoder.into_closure()),
-    }
+    let stop = decode_within(&mut decoder, tail, tail.len());
+    let place = stop.map(|stop| match stop {
+        Stop::Paused(place) | Stop::Ended(place) => place,
+    });
+    (place, decoder.into_closure())
+}
+
+/// Calls a closure with the next decoded bytes of a body of base64, after what is left over, as `decode_within` does. If decoding
+/// is paused, what is left over then takes the place of what was.
+pub(crate) fn decode_base64_part<F, E>(
+    left_over: &mut LeftOver,
+    tail: &[u8],
+    most: usize,
+    write: &mut F,
+) -> Result<Stop, DecodeError<E>>
+where
+    F: FnMut(&[u8]) -> Result<(), E>,
+    requires { F.IsAlwaysCallable write.old }
+    ensures { DecodesPartOf (CalledAt F.FnMut) write.old left_over.old tail.now most left_over.new
+        result write.new }
+{
+    let write = |piece: &[u8]| -> Result<(), E> { write(piece) };
+    let mut decoder = Decoder::resume(*left_over, write);
+    let stop = decode_within(&mut decoder, tail, most);
+    *left_over = decoder.left_over();
+    stop
 }
 
 /// Calls a closure with a body that is not base64: its prefix, and the pieces after it. Returns the place where the body ends.
 pub(crate) fn decode_plain<F, E>(
     prefix: &[u8],
-    pieces: Pieces<'_>,
+    walk: Walk<'_>,
     mut write: F,
 ) -> (Result<usize, DecodeError<E>>, F)
 where
     F: FnMut(&[u8]) -> Result<(), E>,
     requires callable { F.IsAlwaysCallable write }
-    requires prefix { IsBodyPrefix pieces.text prefix.now pieces }
-    ensures { Decodes (CalledAt F.FnMut) write (length pieces.entry.text + 1)
-        (outcome false (plain_body pieces.entry.text)) (IsBodyEnd pieces.entry.text)
+    requires prefix { IsBodyPrefix walk.text prefix.now walk }
+    ensures { Decodes (CalledAt F.FnMut) write (length walk.entry.text + 1)
+        (outcome false (plain_body walk.entry.text)) (IsBodyEnd walk.entry.text)
         result.0 result.1 }
 {
     if !prefix.is_empty() {
@@ -110,23 +177,23 @@ where
             return (Err(DecodeError::WriteError(error)), write);
         }
     }
-    let place = take_rest(pieces, &mut write);
+    let place = take_rest(walk, &mut write);
     (place.map_err(DecodeError::WriteError), write)
 }
 
 /// Returns a body that is not base64 in a vector, and the place in the text where it ends.
-pub(crate) fn plain_to_vec(alloc: Global, tail: &str) -> Result<(Vec<u8>, usize), DecodeToVecError>
+pub(crate) fn plain_to_vec(alloc: Global, tail: &[u8]) -> Result<(Vec<u8>, usize), DecodeToVecError>
     ensures { IsBodyInVec false tail.now result }
 {
-    let (prefix, pieces) = Pieces::after_prefix(tail);
+    let (prefix, walk) = Walk::after_prefix(tail);
     let mut room = prefix.len();
-    if room < tail.len() && tail.as_bytes()[room] != b'#' {
+    if room < tail.len() && tail[room] != b'#' {
         room = room.max(tail.len().min(FIRST_ROOM));
     }
     let Ok(mut bytes) = Vec::with_capacity(alloc, room) else {
         return Err(DecodeToVecError::OutOfMemory);
     };
-    let ended = decode_plain(prefix, pieces, |piece: &[u8]| -> Result<(), AllocError> {
+    let ended = decode_plain(prefix, walk, |piece: &[u8]| -> Result<(), AllocError> {
         bytes.extend_from_slice(piece)
     });
     match ended.0 {
@@ -136,26 +203,29 @@ pub(crate) fn plain_to_vec(alloc: Global, tail: &str) -> Result<(Vec<u8>, usize)
 }
 
 /// Returns how many symbols room is allocated for first: for all of the tail if it is short, or if its first bytes are symbols.
-fn first_len(tail: &str) -> usize {
-    let probed = tail.get(..PROBED).unwrap_or("");
-    if tail.len() <= FIRST_ROOM || Pieces::after_prefix(probed).0.len() == PROBED {
+fn first_len(tail: &[u8]) -> usize {
+    let probed = tail.get(..PROBED).unwrap_or(&[]);
+    if tail.len() <= FIRST_ROOM || Walk::after_prefix(probed).0.len() == PROBED {
         return tail.len();
     }
     FIRST_ROOM
 }
 
 /// Gives room back that was allocated for a fragment, if it is at least 4 KiB and half of all, or if the body is clean.
-fn shrink(tail: &str, body: &mut Vec<u8>, place: usize)
+fn shrink(tail: &[u8], body: &mut Vec<u8>, place: usize)
     ensures { body.new.items ≡ body.old.items }
 {
     let is_large = body.capacity() / 2 > body.len().max(PROBED);
-    if place < tail.len() && (is_large || Pieces::after_prefix(tail).0.len() == place) {
+    if place < tail.len() && (is_large || Walk::after_prefix(tail).0.len() == place) {
         body.shrink_to(room_for(place));
     }
 }
 
 /// Returns a body of base64 in a vector, and the place in the text where it ends. Room is allocated by the length of the text.
-pub(crate) fn base64_to_vec(alloc: Global, tail: &str) -> Result<(Vec<u8>, usize), DecodeToVecError>
+pub(crate) fn base64_to_vec(
+    alloc: Global,
+    tail: &[u8],
+) -> Result<(Vec<u8>, usize), DecodeToVecError>
     ensures { IsBodyInVec true tail.now result }
 {
     let Ok(mut bytes) = Vec::with_capacity(alloc, room_for(first_len(tail))) else {

@@ -14,12 +14,13 @@ mod looks;
 mod marks;
 mod pack;
 mod source;
+mod walk;
 
-use cursor::{Ahead, Cursor};
+use cursor::Cursor;
 pub(crate) use gather::BUFFER_LEN;
 pub(crate) use source::fragment_at;
 use std::marker::Model;
-use std::mem::replace;
+pub(crate) use walk::Walk;
 
 /// A piece of a body.
 #[derive(Drop)]
@@ -38,17 +39,19 @@ pub enum Piece<'a> {
 /// it has ended, and how many bytes of the text were examined, which is never more than three times its length.
 #[derive(Drop)]
 pub struct Pieces<'a> {
+    text: &'a str,
     cursor: Cursor<'a>,
 }
 
 impl<'a> Model for Pieces<'a> {
-    ghost use Rattle.data_url.specs.{Pieces.{Walk, walk_of}, Steps.Walk.{Knows}};
+    ghost use Rattle.std.specs.Prelude.{◌≡◌};
+    ghost use Rattle.data_url.specs.{Pieces.{Walk, text_of, walk_of}, Steps.Walk.{Knows}};
 
     ghost Value = { Walk };
 
     ghost view = { λ pieces. walk_of pieces.cursor };
 
-    ghost invariant = { λ pieces. Knows pieces.cursor };
+    ghost invariant = { λ pieces. Knows pieces.cursor × (pieces.text.now ≡ text_of pieces.cursor) };
 }
 
 impl<'a> Pieces<'a> {
@@ -57,28 +60,8 @@ impl<'a> Pieces<'a> {
         ensures { result ≡ walk_at_start text.entry.now }
     {
         Pieces {
-            cursor: Cursor::new(text),
-        }
-    }
-
-    /// Returns the bytes of a text before its first mark, which are bytes of the body, and the pieces after them.
-    #[inline(always)]
-    pub(crate) fn after_prefix(text: &'a str) -> (&'a [u8], Self)
-        ensures { IsBodyPrefix text.entry.now result.0.now result.1 }
-    {
-        let mut cursor = Cursor::new(text);
-        let prefix = cursor.next_prefix();
-        (prefix, Pieces { cursor })
-    }
-
-    /// Returns the pieces of a text from a place on. No `#` comes before it.
-    pub(crate) fn from_place(text: &'a str, place: usize) -> Self
-        requires within { place ≤ length text.now }
-        requires no_hash { after number_sign (drop place text.now) ≡ after number_sign text.now }
-        ensures { IsBodyFrom text.entry.now place result }
-    {
-        Pieces {
-            cursor: Cursor::from_place(text, place),
+            text,
+            cursor: Cursor::new(text.as_bytes()),
         }
     }
 
@@ -100,7 +83,7 @@ impl<'a> Pieces<'a> {
         ensures looks { self.old.looks ≤ self.new.looks }
         ensures few_looks { self.new.looks ≤ 3 * length self.new.text }
     {
-        self.cursor.next()
+        self.cursor.next(usize::MAX)
     }
 
     /// Returns the text after the first `#`, as it was given
@@ -111,37 +94,6 @@ impl<'a> Pieces<'a> {
         requires { IsTrue self.now.ended }
         ensures { option_map (λ fragment. fragment.now) result ≡ after number_sign self.now.text }
     {
-        self.cursor.source.fragment(self.cursor.place)
-    }
-
-    /// Returns the next bytes, or None if the body has ended: a long stretch of the text as it is, or shorter ones and
-    /// the values of escapes, gathered in a buffer. The walk is moved out and back, so that it can stay in registers.
-    pub(crate) fn next_bytes<'r>(&mut self, room: &'r mut [u8; BUFFER_LEN]) -> Option<&'r [u8]>
-    where
-        'a: 'r,
-        ensures { GivesBytes self.old result self.new }
-    {
-        let mut cursor = replace(&mut self.cursor, Cursor::new(""));
-        let bytes = cursor.next_bytes(room);
-        self.cursor = cursor;
-        bytes
-    }
-
-    /// Returns whether the walk is known to be at the end of the body.
-    #[tactic(auto, using(crate::proofs::escapes::Walking::walking))]
-    pub(crate) fn has_ended(&self) -> bool
-        ensures ended { result ≡ self.now.ended }
-        ensures over { IsTrue result → self.now.rest ≡ [] }
-    {
-        matches!(self.cursor.ahead, Ahead::End)
-    }
-
-    /// Returns the place in the text where the body ends, of a walk that has ended.
-    #[tactic(auto, using(crate::proofs::escapes::Walking::walking))]
-    pub(crate) fn end(&self) -> usize
-        requires { IsTrue self.now.ended }
-        ensures { IsBodyEnd self.now.text result }
-    {
-        self.cursor.place
+        fragment_at(self.text, self.cursor.place)
     }
 }

@@ -1,6 +1,7 @@
 //! Forgiving base64 (Infra Standard, forgiving-base64 decode).
 
-ghost use Rattle.std.specs.{Prelude.{◌≡◌, ◌*◌, ◌+◌, ◌/◌, ◌%◌, IfErr, IfOk, IsOk, IsTrue, Some}, Fn.{CalledAt}};
+ghost use Rattle.std.specs.{Prelude.{◌≡◌, ◌*◌, ◌+◌, ◌++◌, ◌/◌, ◌%◌, IfErr, IfOk, IsOk, IsTrue, Some}, Fn.{CalledAt}};
+ghost use Rattle.data_url.specs.{Parts.{left_over_text}, Steps.Parts.{DecodesPart, FinishesPart}};
 ghost use Rattle.data_url.specs.{Base64.{decoded, is_valid}, Steps.Whole.{DecodesText}, Errors.{IsErrorOf}};
 
 use std::alloc::{AllocError, Global};
@@ -15,6 +16,7 @@ mod held;
 mod left_over;
 
 pub use decode::Decoder;
+pub use left_over::LeftOver;
 
 /// Why a text is not valid base64 ([Infra Standard, forgiving-base64
 /// decode](https://infra.spec.whatwg.org/#forgiving-base64-decode)). There are four kinds:
@@ -30,9 +32,10 @@ pub struct InvalidBase64 {
     details: InvalidBase64Details,
 }
 
-/// The kinds of base64 that is not valid.
-#[derive(Debug, Drop)]
-enum InvalidBase64Details {
+/// The kinds of base64 that is not valid ([Infra Standard, forgiving-base64
+/// decode](https://infra.spec.whatwg.org/#forgiving-base64-decode)).
+#[derive(Clone, Copy, Debug)]
+pub enum InvalidBase64Details {
     /// A byte that is neither white space nor `=` nor a symbol of the alphabet.
     UnexpectedSymbol(u8),
     /// An alphabet symbol with a `=` somewhere before it.
@@ -49,6 +52,17 @@ impl Model for InvalidBase64 {
     ghost Value = { Kind };
 
     ghost view = { λ refusal. refusal.details };
+}
+
+impl InvalidBase64 {
+    ghost use Rattle.std.specs.Prelude.{◌≡◌};
+
+    /// Returns the kind, with the byte of an unexpected symbol.
+    pub fn details(&self) -> InvalidBase64Details
+        ensures { result ≡ self.now }
+    {
+        self.details
+    }
 }
 
 impl fmt::Display for InvalidBase64 {
@@ -149,6 +163,39 @@ where
         Ok(()) => decoder.finish_with(),
         Err(error) => (Err(error), decoder.into_closure()),
     }
+}
+
+/// Calls a closure with the bytes of the groups that a text completes after what was left over, and puts what is left
+/// over then in its place. After an error that value is of no use.
+pub(crate) fn decode_part<F, E>(
+    left_over: &mut LeftOver,
+    text: &[u8],
+    write_bytes: &mut F,
+) -> Result<(), DecodeError<E>>
+where
+    F: FnMut(&[u8]) -> Result<(), E>,
+    requires { F.IsAlwaysCallable write_bytes.old }
+    ensures { DecodesPart (CalledAt F.FnMut) write_bytes.old (left_over_text left_over.old ++ text.now)
+        left_over.new result write_bytes.new }
+{
+    let write = |piece: &[u8]| -> Result<(), E> { write_bytes(piece) };
+    let mut decoder = Decoder::resume(*left_over, write);
+    let answer = decoder.feed(text);
+    *left_over = decoder.left_over();
+    answer
+}
+
+/// Calls a closure with the last bytes of a text of base64 that has this left over. Returns the closure as well.
+pub(crate) fn finish_part<F, E>(
+    left_over: LeftOver,
+    write_bytes: F,
+) -> (Result<(), DecodeError<E>>, F)
+where
+    F: FnMut(&[u8]) -> Result<(), E>,
+    requires { F.IsAlwaysCallable write_bytes }
+    ensures { FinishesPart (CalledAt F.FnMut) write_bytes left_over result.0 result.1 }
+{
+    Decoder::resume(left_over, write_bytes).finish_with()
 }
 
 /// Returns how many bytes a text of base64 of this length decodes to at most.

@@ -14,11 +14,12 @@ mod header;
 pub mod laws;
 pub mod mime;
 mod packing;
+pub mod parts;
 mod percent;
 mod split;
 
 use body::{base64_to_vec, decode_base64, decode_plain, plain_to_vec};
-use escapes::{Pieces, fragment_at};
+use escapes::{Walk, fragment_at};
 use forgiving_base64::{DecodeError, DecodeToVecError, room_for};
 pub use fragment::FragmentIdentifier;
 use header::{read_media, serialise, serialised_text, split_suffix};
@@ -130,11 +131,12 @@ impl<'a> DataUrl<'a> {
         ensures { Decodes (CalledAt F.FnMut) write_body_bytes (length (url_tail self.now) + 1)
             (url_body self.now) (IsFragmentOf (url_tail self.now)) result.0 result.1 }
     {
+        let tail = self.tail.as_bytes();
         let (answer, write) = if self.base64 {
-            decode_base64(self.tail, write_body_bytes)
+            decode_base64(tail, write_body_bytes)
         } else {
-            let (prefix, pieces) = Pieces::after_prefix(self.tail);
-            decode_plain(prefix, pieces, write_body_bytes)
+            let (prefix, walk) = Walk::after_prefix(tail);
+            decode_plain(prefix, walk, write_body_bytes)
         };
         match answer {
             Ok(place) => (
@@ -189,10 +191,11 @@ impl<'a> DataUrl<'a> {
         ensures fragment { IfOk result (λ found. IsFragmentOf (url_tail self.now) found.1) }
         ensures error { IfErr result (IsBodyErrorOf (url_body self.now)) }
     {
+        let tail = self.tail.as_bytes();
         let (bytes, place) = if self.base64 {
-            base64_to_vec(alloc, self.tail)?
+            base64_to_vec(alloc, tail)?
         } else {
-            plain_to_vec(alloc, self.tail)?
+            plain_to_vec(alloc, tail)?
         };
         let fragment = fragment_at(self.tail, place).map(FragmentIdentifier::new);
         Ok((bytes, fragment))

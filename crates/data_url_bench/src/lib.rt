@@ -3,19 +3,22 @@
 //!
 //! Each export returns how many bytes the function returned, or `REFUSED`, and copies them to `out` as far as they fit
 //! there. A driver that compares passes an `out` with room; one that times passes an empty one, so that nothing is
-//! copied. If the function calls a closure with its bytes, the closure writes them to `out`.
+//! copied. If the function calls a closure with its bytes, the closure writes them to `out`. In the exports whose names
+//! end with `summed` it only adds up how many there are, and the first byte of each piece.
 #![tactic(auto)]
 
 ghost use Rattle.std.specs.Prelude.{◌≡◌, length};
 ghost use Rattle.std.specs.Str.{IsUtf8};
 
 mod buffer;
+mod sum;
 
 use buffer::Buffer;
 use data_url::DataUrl;
 use data_url::forgiving_base64::{Decoder, decode_to_vec};
 use data_url::mime::Mime;
 use std::alloc::Global;
+use sum::Sum;
 
 /// The result of a call that failed.
 const REFUSED: usize = usize::MAX;
@@ -50,6 +53,25 @@ pub extern "C" fn data_url_base64_feed(input: &[u8], out: &mut [u8]) -> usize {
         return REFUSED;
     }
     buffer.len()
+}
+
+/// A `forgiving_base64::Decoder` that is fed in parts of `size` bytes.
+#[unsafe(no_mangle)]
+pub extern "C" fn data_url_base64_feed_summed(input: &[u8], size: usize, out: &mut [u8]) -> usize {
+    let mut sum = Sum::new();
+    let mut decoder = Decoder::new(|piece: &[u8]| -> Result<(), ()> {
+        sum.add(piece);
+        Ok(())
+    });
+    for part in input.chunks(size.max(1)) {
+        if decoder.has_failed() || decoder.feed(part).is_err() {
+            return REFUSED;
+        }
+    }
+    if decoder.has_failed() || decoder.finish().is_err() {
+        return REFUSED;
+    }
+    sum.show(out)
 }
 
 /// `DataUrl::process`; returns the number of parameters of the MIME type.
@@ -91,6 +113,26 @@ pub extern "C" fn data_url_decode(alloc: Global, text: &[u8], out: &mut [u8]) ->
     let mut buffer = Buffer::new(out);
     match url.decode(|piece: &[u8]| -> Result<(), ()> { buffer.append(piece) }) {
         Ok(_) => buffer.len(),
+        Err(_) => REFUSED,
+    }
+}
+
+/// `DataUrl::process` and `DataUrl::decode`.
+#[unsafe(no_mangle)]
+pub extern "C" fn data_url_decode_summed(alloc: Global, text: &[u8], out: &mut [u8]) -> usize
+    requires { IsUtf8 text.now }
+{
+    let text = unsafe { str::from_utf8_unchecked(text) };
+    let Ok(url) = DataUrl::process(alloc, text) else {
+        return REFUSED;
+    };
+    let mut sum = Sum::new();
+    let decoded = url.decode(|piece: &[u8]| -> Result<(), ()> {
+        sum.add(piece);
+        Ok(())
+    });
+    match decoded {
+        Ok(_) => sum.show(out),
         Err(_) => REFUSED,
     }
 }

@@ -19,10 +19,10 @@ use Rattle.data_url.proofs.api.{ascii_all, on_literals}
 use Rattle.data_url_c.specs.Forms.{part, parts_of, parts_of_pair, serialised}
 use Rattle.data_url_c.specs.Answers.{Answers, Shows}
 use Rattle.data_url_c.specs.Gives.{GivesTypeInParts}
-use Rattle.data_url_c.specs.Parts.{WritesFront}
+use Rattle.data_url.specs.Parts.{WritesFront}
 use Rattle.data_url_c.specs.Steps.{Writes, WritesForm, form_of}
 use Rattle.data_url_c.specs.declared.answer.DataUrlAnswer.{DataUrlAnswer}
-use Rattle.data_url_c.proofs.PartLemmas.{Reaches, reaches_front, reaches_more}
+use Rattle.data_url_c.proofs.OutputLemmas.{Reaches, reaches_front, reaches_more}
 use Rattle.data_url_c.proofs.PrintLemmas.{ascii_encoded, vec_of}
 
 -- a text as a part

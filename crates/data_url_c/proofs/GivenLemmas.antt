@@ -1,8 +1,7 @@
 -- What a function returns for its input, from what the private functions return.
 use Rattle.std.proofs.Common.{◌≡◌, ℕ, Bool, true, false, List, ◌++◌, Option, None, Some, Result, Ok, Err, refl, sym, ap}
-use Rattle.std.proofs.Common.{◌∙◌, subst, inl, inr}
-use Rattle.std.specs.Global.{Global}
-use Rattle.std.specs.Prelude.{IsUtf8, Vec, MatchBool, MatchOption, chars, option_map}
+use Rattle.std.proofs.Common.{◌∙◌, subst}
+use Rattle.std.specs.Prelude.{IsUtf8, MatchBool, MatchOption, chars, option_map}
 use Rattle.data_url.specs.Base64.{Kind, complete_bytes, decoded, is_valid, kind_of}
 use Rattle.data_url.specs.DataUrl.{IsAcceptable, IsUrlOf, mime_of, url_body, url_tail}
 use Rattle.data_url.specs.Errors.{IsParsingError, IsRefused}
@@ -20,9 +19,9 @@ use Rattle.data_url.specs.declared.mime.Mime.{Mime}
 use Rattle.data_url.specs.declared.mime.MimeFromStrError.{MimeFromStrError}
 use Rattle.data_url.specs.declared.mime.MimeFromStrError.TheVariants.{OutOfMemory as NoMemory, Parsing}
 use Rattle.data_url.specs.declared.mime.MimeParsingError.{MimeParsingError}
-use Rattle.data_url_c.specs.Answers.{Answers, Given}
+use Rattle.data_url_c.specs.Answers.{Crosses, Answers, Given}
 use Rattle.data_url_c.specs.Gives.{GivesBody, GivesFragment, GivesMime, GivesType, IsUrlWith, RefusesUrl}
-use Rattle.data_url_c.specs.Steps.{CrossesOrNot, HasBody, HasFragment, HasText}
+use Rattle.data_url_c.specs.Steps.{HasBody, HasFragment, HasText}
 use Rattle.data_url_c.specs.declared.answer.DataUrlAnswer.{DataUrlAnswer}
 use Rattle.data_url_c.specs.declared.refusal.Refusal.{Refusal}
 use Rattle.data_url_c.specs.declared.refusal.Refusal.TheVariants.{InvalidBase64, NoComma, NoFragment, NotADataUrl}
@@ -194,22 +193,7 @@ decodes_valid {x = x} {r = r} h q = valid_all (refusal h.run) (is_valid x) x _ (
 
 -- Results
 
--- if the kind of a fault was not read, the result is that of a failed allocation
+-- what a call gives, as a result in C
 pub answers : (Gives : Given → Type 0) (given : Given) {old new : List ℕ} {r : DataUrlAnswer} → Gives given
-    → ((kind : Kind) (before : Vec ℕ Global) → Gives (Err (InvalidBase64 kind before)) → Gives (Err OutOfMemory))
-    → CrossesOrNot given old new r → Answers Gives old new r
-answers Gives given g or (inl c) = record { given = given; is_given = g; crosses = c }
-answers Gives given g or (inr c) =
-    let f = c.0 in record { given = Err OutOfMemory; is_given = or f.0 f.1 (subst Gives f.2 g); crosses = c.1 }
-
--- a call that can return a fault of base64 can also fail to allocate
-
--- a body with a fault may also be returned as a failed allocation
-pub body_or_memory : {x : List ℕ} (kind : Kind) (before : Vec ℕ Global) → GivesBody x (Err (InvalidBase64 kind before))
-    → GivesBody x (Err OutOfMemory)
-body_or_memory {x} kind before g = (g.1.is_text, accepted x g.1.staged_is)
-
--- the fragment of a body with a fault may also be returned as a failed allocation
-pub fragment_or_memory : {x : List ℕ} (kind : Kind) (before : Vec ℕ Global)
-    → GivesFragment x (Err (InvalidBase64 kind before)) → GivesFragment x (Err OutOfMemory)
-fragment_or_memory {x} kind before g = (g.2.is_text, accepted x g.2.staged_is)
+    → Crosses given old new r → Answers Gives old new r
+answers Gives given g c = record { given = given; is_given = g; crosses = c }

@@ -1,7 +1,7 @@
 -- A URL is opened with its probe.
 use Rattle.std.proofs.Common.{◌≡◌, Bor, ℕ, zero, suc, ◌+◌, ◌-◌, ◌<◌, ◌≤◌, Bool, true, false, nat_eq, List, [], ◌∷◌}
 use Rattle.std.proofs.Common.{◌++◌, length, length-append, get_or, take, drop, codes, Option, None, Some, Result, Ok}
-use Rattle.std.proofs.Common.{Err, position, refl, sym, ap, ◌∙◌, subst, inl, inr, arith}
+use Rattle.std.proofs.Common.{Err, position, refl, sym, ap, ◌∙◌, subst, inr, arith}
 use Rattle.std.specs.Global.{Global}
 use Rattle.std.specs.Prelude.{◌==◌, IfSome, IsUtf8}
 use Rattle.std.specs.Str.Pattern.{GetsRange}
@@ -29,7 +29,7 @@ use Rattle.data_url.proofs.api.{IsBytes, before_at, after_none, bytes_by_place, 
 use Rattle.data_url_c.specs.Answers.{Crosses, Shows}
 use Rattle.data_url_c.specs.Gives.{RefusesUrl}
 use Rattle.data_url_c.specs.Opens.{OpensAs, answer_of}
-use Rattle.data_url_c.specs.Steps.{CrossesOrNot, HasLength, IsRead, IsTypeWritten, ReadsProbe, WritesForm}
+use Rattle.data_url_c.specs.Steps.{HasLength, IsRead, IsTypeWritten, ReadsProbe, WritesForm}
 use Rattle.data_url_c.specs.Steps.Opening.{HasFlag, IsReadUrl, IsRefused, ReadsUrl, tail_after}
 use Rattle.data_url_c.specs.declared.answer.DataUrlAnswer.{DataUrlAnswer}
 use Rattle.data_url_c.specs.declared.open.DataUrlOpened.{DataUrlOpened}
@@ -323,12 +323,6 @@ default_read form x items comma found {old} {new} {r} small b p same f g h =
 
 -- The result
 
--- the result for a refused URL is that of its refusal, which is not a fault of base64
-crosses_refused : (x : List ℕ) (refusal : Refusal) {old new : List ℕ} {r : DataUrlAnswer} → RefusesUrl x refusal
-    → CrossesOrNot (Err refusal) old new r → Crosses (Err refusal) old new r
-crosses_refused x refusal h (inl c) = c
-crosses_refused x refusal h (inr c) = grind arith
-
 -- if the bytes are refused as a URL, opening them returns that refusal and no tail
 pub opens_refused : (form : Record → List ℕ) (x : List ℕ) (refusal : Refusal) {old mid new : List ℕ} {r : DataUrlOpened}
     → RefusesUrl x refusal → mid ≡ old → IsRefused refusal mid new r → OpensAs form x old new r
@@ -337,7 +331,7 @@ opens_refused form x refusal {old} {mid} {new} {r} h e k =
     record {
       given = Err refusal;
       is_given = (h, k.no_tail);
-      crosses = subst P e (crosses_refused x refusal h k.crosses);
+      crosses = subst P e k.crosses;
     }
 
 -- if the header of a URL was read, opening the URL returns its MIME type, its tail, and whether it is base64

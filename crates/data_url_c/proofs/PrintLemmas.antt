@@ -1,18 +1,11 @@
--- Texts that are printed to a buffer of fixed size.
-use Rattle.std.proofs.Common.{◌≡◌, ◌⊎◌, ℕ, suc, [], ◌∷◌, ◌-◌, ◌<◌, ◌^◌, Bool, false, nat_eq, List, ◌++◌, length, drop}
-use Rattle.std.proofs.Common.{codes, refl, sym, ap, ◌∙◌, inl, inr, arith}
+-- Texts that are printed, and vectors of bytes.
+use Rattle.std.proofs.Common.{◌≡◌, ℕ, suc, [], ◌∷◌, ◌<◌, ◌^◌, List, ◌++◌, length}
+use Rattle.std.proofs.Common.{refl, sym, ap, ◌∙◌, arith}
 use Rattle.std.specs.Global.{Global}
-use Rattle.std.specs.List.{ends_with}
 use Rattle.std.specs.Prelude.{Vec, encode_utf8_all}
 use Rattle.std.specs.Str.{IsAscii}
 use Rattle.std.proofs.lemmas.Str.{encode_ascii}
 use denote.RawPtr.{null_ptr}
-
--- a text that does not end in dots was not cut
-pub not_cut : (bytes shown items : List ℕ) (r : Bool) → (shown ≡ bytes) ⊎ (drop (length shown - 3) shown ≡ codes "...")
-    → items ≡ shown → r ≡ ends_with nat_eq items (codes "...") → r ≡ false → items ≡ bytes
-not_cut bytes shown items r (inl k) e f g = e ∙ k
-not_cut bytes shown items r (inr k) e f g = grind arith
 
 -- ASCII is encoded as it is
 pub ascii_encoded : (s : List ℕ) → IsAscii s → s ≡ encode_utf8_all s

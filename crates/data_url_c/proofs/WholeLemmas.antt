@@ -1,40 +1,29 @@
 -- Whole bodies, decoded into an output.
-use Rattle.std.proofs.Common.{◌≡◌, ℕ, ◌<◌, ◌≤◌, ◌^◌, Bool, true, false, List, length, Result, Ok, Err, refl, ap, subst}
-use Rattle.std.proofs.Common.{sym}
+use Rattle.std.proofs.Common.{◌≡◌, ℕ, ◌<◌, ◌≤◌, ◌^◌, List, length, Result, Ok, Err, refl}
 use Rattle.std.proofs.Common.{arith}
 use Rattle.std.specs.Global.{Global}
-use Rattle.std.specs.Prelude.{IsUtf8, MatchBool}
+use Rattle.std.specs.Prelude.{IsUtf8}
 use Rattle.std.proofs.lemmas.List.{length-take-le, take-append-drop}
-use Rattle.std.proofs.Math.Seq.{drop-append_seam}
-use Rattle.std.proofs.lemmas.Bool.{cases_Bool}
-use Rattle.data_url.specs.Base64.{Kind, complete_bytes, decoded, is_valid, kind_of}
+use Rattle.data_url.specs.Base64.{Kind}
 use Rattle.data_url.specs.DataUrl.{Answers as BodyAnswers, Decodes, IsUrlOf, url_body, url_tail}
-use Rattle.data_url.specs.Fetch.{Bad, Good, Outcome, outcome, outcome_bytes, plain_body}
-use Rattle.data_url.specs.Run.{joined_pieces, refusal}
+use Rattle.data_url.specs.Fetch.{Bad, Good, Outcome, outcome_bytes}
+use Rattle.data_url.specs.Run.{refusal}
 use Rattle.std.specs.declared.convert.Infallible.{Infallible}
 use Rattle.data_url.specs.declared.DataUrl.{DataUrl}
 use Rattle.data_url.specs.declared.forgiving_base64.DecodeError.{DecodeError}
 use Rattle.data_url.specs.declared.forgiving_base64.DecodeError.TheVariants.{InvalidBase64 as Invalid}
-use Rattle.data_url.proofs.api.{DecodesText, body_shorter, body_within_tail, outcome_shorter, match_at_none}
+use Rattle.data_url.proofs.api.{body_within_tail, match_at_none}
 use Rattle.data_url_c.specs.Answers.{Answers, Shows, status_of_kind}
-use Rattle.data_url_c.specs.Bodies.{DecodesTail, EndsAs}
+use Rattle.data_url_c.specs.Bodies.{EndsAs}
 use Rattle.data_url_c.specs.Gives.{GivesBody}
-use Rattle.data_url_c.specs.Parts.{WritesFront}
+use Rattle.data_url.specs.Parts.{WritesFront}
 use Rattle.data_url_c.specs.Steps.{AnyAnswer, GetsBody}
 use Rattle.data_url_c.specs.declared.refusal.Refusal.TheVariants.{InvalidBase64}
 use Rattle.data_url_c.proofs.GivenLemmas.{url_with}
-use Rattle.data_url_c.proofs.PartLemmas.{Reaches, no_refusal, passes_on, writes_front}
+use Rattle.data_url_c.proofs.OutputLemmas.{Reaches, no_refusal, passes_on, writes_front}
 use Rattle.data_url_c.proofs.PrintLemmas.{vec_of}
 
 -- What the calls of a closure wrote
-
--- the bytes of a whole text of base64, and its answer, are those of its outcome
-text_answer : {E : Type 0} (u bytes : List ℕ) (r : Result (Unit {0}) (DecodeError E))
-    → MatchBool (is_valid u) ((bytes ≡ decoded u) × (r ≡ Ok tt))
-    ((bytes ≡ complete_bytes u) × (r ≡ Err (Invalid (kind_of u))))
-    → (bytes ≡ outcome_bytes (outcome true u)) × BodyAnswers (outcome true u) AnyAnswer r
-unfolding outcome
-text_answer u bytes r h = grind (arith, cases_Bool (is_valid u))
 
 module _ {F G : Type 0} (inner : G → List ℕ → Result (Unit {0}) Infallible → G → Type 0) (outer : F → List ℕ
     → Result (Unit {0}) Infallible → F → Type 0) (K : G → F)
@@ -47,25 +36,10 @@ module _ {F G : Type 0} (inner : G → List ℕ → Result (Unit {0}) Infallible
       let gave = match_at_none (refusal h.run) _ _ (no_refusal (refusal h.run)) h.gave in
       passes_on inner outer K maps h.run h.ran gave.bytes_are gave.answer a b
 
-  -- a closure that is called with a text of base64 instead
-  pub passes_text : {f g : G} {w w' : F} {u : List ℕ} {r : Result (Unit {0}) (DecodeError Infallible)}
-      → DecodesText inner f u r g → K f ≡ w → w' ≡ K g → GetsBody outer w (outcome true u) r w'
-  passes_text {u = u} {r = r} h a b =
-      let gave = match_at_none (refusal h.run) _ _ (no_refusal (refusal h.run)) h.gave in
-      let got = text_answer u (joined_pieces h.run) r gave in
-      passes_on inner outer K maps h.run h.ran got.0 got.1 a b
-
--- if the answer for a body is that base64 is not valid, the body is bad, with this kind of fault
-bad_of : {E : Type 0} (body : Outcome) (r : Result (Unit {0}) (DecodeError E)) (kind : Kind) → r ≡ Err (Invalid kind)
-    → BodyAnswers body AnyAnswer r → (bytes : List ℕ) × (body ≡ Bad bytes kind)
-bad_of (Good bytes) (Ok x) kind e h = absurd (cc)
-bad_of (Good bytes) (Err x) kind e h = absurd h
-bad_of (Bad bytes other) r kind e h = let same : other ≡ kind = cc in (bytes, ap (λ k. Bad bytes k) same)
-
 -- an output at least as long as the tail has room for the bytes of the body
-pub body_fits : (url : DataUrl) {tail : List ℕ} (out : List ℕ) → url_tail url ≡ tail → length tail ≤ length out
+pub body_fits : (url : DataUrl) (out : List ℕ) → length (url_tail url) ≤ length out
     → length (outcome_bytes (url_body url)) ≤ length out
-body_fits url out t room = let few = body_within_tail url in omega (arith, few, ap length t, room)
+body_fits url out room = let few = body_within_tail url in omega (arith, few, room)
 
 -- a good body
 pub ends_good : {E : Type 0} (body : Outcome) (r : Result (Unit {0}) (DecodeError E)) (out out' : List ℕ) (len : ℕ)
@@ -79,46 +53,6 @@ pub ends_bad : {E : Type 0} (body : Outcome) (r : Result (Unit {0}) (DecodeError
     → length (outcome_bytes body) ≤ length out → r ≡ Err (Invalid kind) → BodyAnswers body AnyAnswer r
     → status ≡ status_of_kind kind → Reaches out (outcome_bytes body) out' len → EndsAs body out out' status len
 ends_bad body r kind out out' status len fits e answer named h = grind (arith, writes_front)
-
--- only a base64 body can be bad
-flag_of_bad : (flag : Bool) (x bytes : List ℕ) (kind : Kind) → outcome flag x ≡ Bad bytes kind → flag ≡ true
-unfolding outcome
-flag_of_bad true x bytes kind e = refl
-flag_of_bad false x bytes kind e = absurd (cc)
-
--- a bad body, which was decoded again
-pub ends_again : {E : Type 0} (flag : Bool) (x : List ℕ) {y mid : List ℕ} {len : ℕ}
-    (r : Result (Unit {0}) (DecodeError E)) (kind : Kind)
-    (out out' : List ℕ) (status len' : ℕ) → length (outcome_bytes (outcome flag x)) ≤ length out
-    → r ≡ Err (Invalid kind)
-    → BodyAnswers (outcome flag x) AnyAnswer r → Reaches out (outcome_bytes (outcome flag x)) mid len
-    → length out' ≡ length mid → y ≡ x → EndsAs (outcome true y) mid out' status len'
-    → EndsAs (outcome flag x) out out' status len'
-ends_again flag x {y} {mid} {len} r kind out out' status len' fits e answer h size same k =
-    grind (arith, bad_of, flag_of_bad, length-take-le, drop-append_seam)
-
--- Tails
-
--- an output at least as long as a tail has room for the bytes of its body
-pub tail_fits : (flag : Bool) (tail out : List ℕ) → length tail ≤ length out
-    → length (outcome_bytes (outcome flag (plain_body tail))) ≤ length out
-tail_fits flag tail out room = omega (arith, outcome_shorter flag (plain_body tail), body_shorter tail, room)
-
--- the closure was called with the bytes of the body of a tail, whose text was gathered
-pub tail_gets : {F : Type 0} {step : F → List ℕ → Result (Unit {0}) Infallible → F → Type 0} {f g : F} {u : List ℕ}
-    (tail : List ℕ) (r : Result (Unit {0}) (DecodeError Infallible)) → u ≡ plain_body tail
-    → GetsBody step f (outcome true u) r g → GetsBody step f (outcome true (plain_body tail)) r g
-tail_gets {step = step} {f = f} {g = g} tail r e h =
-    subst (λ x. GetsBody step f (outcome true x) r g) e h
-
--- a body that is not base64 was written
-pub decodes_plain : {tail old new : List ℕ} {flag : Bool} {len : ℕ} → flag ≡ false → length tail ≤ length old
-    → WritesFront (plain_body tail) old new len → DecodesTail flag tail old new (record { status = 0; len = len })
-unfolding outcome
-decodes_plain {tail} {old} {new} {flag} {len} e room h = record {
-  fits = λ f. subst (λ b. EndsAs (outcome b (plain_body tail)) old new 0 len) (sym e) (refl, h);
-  is_too_small = λ l. absurd (omega (arith, l, room));
-}
 
 -- The result
 

@@ -1,9 +1,11 @@
 -- Bodies: what decoding one into an output does.
-use Rattle.std.specs.Prelude.{◌++◌, ◌<◌, ◌==◌, ◌≡◌, ◌≤◌, Bool, IsUtf8, List, drop, length, not, true, ℕ}
-use Rattle.std.specs.Str.{IsCharBoundary}
+use Rattle.std.specs.Prelude.{◌+◌, ◌++◌, ◌<◌, ◌==◌, ◌≡◌, ◌≤◌, Bool, List, MatchOption, drop, length, not, true, ℕ}
 use Rattle.data_url.specs.Fetch.{Bad, Good, Outcome, outcome, plain_body}
+use Rattle.data_url.specs.Parts.{prepend}
+use Rattle.data_url.specs.Url.{after, number_sign}
 use Rattle.data_url_c.specs.Answers.{status_of_kind}
-use Rattle.data_url_c.specs.Parts.{DoesNothing, WritesFront, is_good_state, waiting_text}
+use Rattle.data_url_c.specs.Parts.{DoesNothing, is_good_state, waiting_text}
+use Rattle.data_url.specs.Parts.{WritesFront}
 use Rattle.data_url_c.specs.declared.body.DataUrlBody.{DataUrlBody}
 use Rattle.data_url_c.specs.declared.parts.DataUrlStep.{DataUrlStep}
 
@@ -13,14 +15,6 @@ abbrev pub EndsAs : Outcome → List ℕ → List ℕ → ℕ → ℕ → Type 0
 EndsAs (Good bytes) before after status len = (status ≡ 0) × WritesFront bytes before after len
 EndsAs (Bad bytes kind) before after status len =
     (status ≡ status_of_kind kind) × WritesFront bytes before after len
-
--- decoding a tail: if the output has room for the tail, its body is written. Otherwise the status is 5, the
--- length is that of the tail, and the output does not change.
-pub record DecodesTail (flag : Bool) (tail before after : List ℕ) (r : DataUrlStep) : Type 0 where
-  pub fits : length tail ≤ length before
-      → EndsAs (outcome flag (plain_body tail)) before after r.status r.len
-  pub is_too_small : length before < length tail
-      → (r.status ≡ 5) × (r.len ≡ length tail) × (after ≡ before)
 
 -- A body in parts
 
@@ -32,17 +26,17 @@ flag_of s = not (s.is_base64 == 0)
 abbrev pub body_left : List ℕ → DataUrlBody → Outcome
 body_left tail s = outcome (flag_of s) (waiting_text s.left ++ plain_body (drop s.from tail))
 
--- a state that a call can return: the rest of the tail begins at a character boundary, and if the body
--- is not base64, nothing is left over
+-- a state that a call can return: it goes on within the tail, and if the body is not base64, nothing is left over
 pub record IsGoodBody (tail : List ℕ) (s : DataUrlBody) : Type 0 where
   pub left : is_good_state s.left ≡ true
-  pub edge : IsCharBoundary tail s.from
+  pub within : s.from ≤ length tail
   pub plain : s.is_base64 ≡ 0 → (s.left.pending ≡ 0) × (s.left.padding ≡ 0)
 
--- an outcome, with more bytes before its own
-abbrev pub prepend : List ℕ → Outcome → Outcome
-prepend front (Good bytes) = Good (front ++ bytes)
-prepend front (Bad bytes kind) = Bad (front ++ bytes) kind
+-- a body that goes on from an index of its tail ends at another one: the tail ends there, or '#'
+-- and the fragment follow
+abbrev pub IsEnd : List ℕ → ℕ → ℕ → Type 0
+IsEnd tail from end = MatchOption (after number_sign (drop from tail)) (end ≡ length tail)
+    (λ fragment. (end < length tail) × (fragment ≡ drop (end + 1) tail))
 
 -- what a call with a good state does, for each status
 pub data GoesOn (tail : List ℕ) (old new : DataUrlBody) (before after : List ℕ) (len : ℕ)
@@ -54,10 +48,8 @@ pub data GoesOn (tail : List ℕ) (old new : DataUrlBody) (before after : List �
       → GoesOn tail old new before after len 11
   -- the body ended, or its base64 has a fault; later calls reject the state
   ended : {status : ℕ} → EndsAs (body_left tail old) before after status len
-      → (IsGoodBody tail new → ⊥) → GoesOn tail old new before after len status
-  -- the tail is not UTF-8
-  no_text : (IsUtf8 tail → ⊥) → DoesNothing old new before after → len ≡ 0
-      → GoesOn tail old new before after len 4
+      → (status ≡ 0 → IsEnd tail old.from new.from) → (IsGoodBody tail new → ⊥)
+      → GoesOn tail old new before after len status
 
 -- what a call does: a state that no call returned gives status 12, and an output of less than eight
 -- bytes status 5

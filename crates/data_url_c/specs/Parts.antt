@@ -1,9 +1,10 @@
 -- Base64 in parts: what feeding a part does, and what finishing does.
 use Rattle.std.specs.List.{list_all}
-use Rattle.std.specs.Prelude.{◌&&◌, ◌+◌, ◌++◌, ◌<◌, ◌≡◌, ◌≤◌, Bool, List, MatchBool, MatchOption, drop, false, length}
+use Rattle.std.specs.Prelude.{◌&&◌, ◌+◌, ◌++◌, ◌<◌, ◌≡◌, ◌≤◌, Bool, List, MatchBool, MatchOption, false, length}
 use Rattle.std.specs.Prelude.{nat_le, nat_lt, take, true, ℕ}
 use Rattle.data_url.specs.Base64.{complete_bytes, decoded, first_fault, is_symbol, is_valid, kind_of, left_padding}
 use Rattle.data_url.specs.Base64.{left_symbols, left_text}
+use Rattle.data_url.specs.Parts.{WritesFront}
 use Rattle.data_url_c.specs.Answers.{status_of_kind}
 use Rattle.data_url_c.specs.declared.parts.DataUrlBase64.{DataUrlBase64}
 use Rattle.data_url_c.specs.declared.parts.DataUrlFed.{DataUrlFed}
@@ -25,12 +26,6 @@ pub record IsLeftOf (u : List ℕ) (s : DataUrlBase64) : Type 0 where
   pub pending_is : s.pending ≡ length (left_symbols u)
   pub symbols_are : take s.pending s.symbols ≡ left_symbols u
   pub padding_is : s.padding ≡ left_padding u
-
--- these bytes were written to the start of the output; the rest of it does not change
-pub record WritesFront (bytes old new : List ℕ) (len : ℕ) : Type 0 where
-  pub within : len ≤ length old
-  pub bytes_are : take len new ≡ bytes
-  pub rest_stays : drop len new ≡ drop len old
 
 -- the bytes of the groups of u that are complete before its first fault were written. If u has no
 -- fault, the state holds what is left over of u; otherwise later calls reject the state.

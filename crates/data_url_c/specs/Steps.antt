@@ -1,18 +1,17 @@
 -- What private functions return: definitions that no contract of an exported function uses.
 pub mod Bare
 pub mod Opening
-pub mod Windows
 use Rattle.std.specs.Global.{Global}
 use Rattle.std.specs.Prelude.{Bool, Err, IsUtf8, List, MatchBool, MatchOption, None, Ok, Option, Result, Some, Vec, []}
 use Rattle.std.specs.Prelude.{drop, encode_utf8_all, false, is_some, length, min, option_map, slice_index, take, true}
-use Rattle.std.specs.Prelude.{ℕ, ◌++◌, ◌+◌, ◌-◌, ◌<◌, ◌==◌, ◌^◌, ◌∷◌, ◌≡◌, ◌≤◌, ◌⊎◌}
+use Rattle.std.specs.Prelude.{ℕ, ◌++◌, ◌+◌, ◌-◌, ◌<◌, ◌==◌, ◌^◌, ◌∷◌, ◌≡◌, ◌≤◌}
 use Rattle.data_url.specs.DataUrl.{Answers, IsAcceptable, IsUrlOf, mime_of, url_body, url_tail}
 use Rattle.data_url.specs.Fetch.{Bad, Good, Outcome, plain_body, outcome_bytes}
 use Rattle.data_url.specs.Mime.{IsRecordOf, Record, printed}
 use Rattle.data_url.specs.MimeType.{record_of}
 use Rattle.data_url.specs.Url.{after, encoded_fragment, number_sign}
 use Rattle.data_url.specs.declared.DataUrl.{DataUrl}
-use Rattle.data_url_c.specs.Answers.{Crosses, Given, Shows, status_of_kind}
+use Rattle.data_url_c.specs.Answers.{Given, Shows, status_of_kind}
 use Rattle.data_url_c.specs.Forms.{parts_of, serialised}
 use Rattle.data_url_c.specs.Gives.{GivesMime, RefusesUrl}
 use Rattle.data_url_c.specs.declared.answer.DataUrlAnswer.{DataUrlAnswer}
@@ -22,14 +21,13 @@ use Rattle.data_url.specs.Base64.{Kind, complete_bytes, decoded, first_fault, is
 use Rattle.data_url.specs.Run.{Call, IsRun, joined_pieces}
 use Rattle.data_url.specs.declared.forgiving_base64.DecodeError.{DecodeError}
 use Rattle.data_url.specs.declared.forgiving_base64.DecodeError.TheVariants as decode
-use Rattle.data_url_c.specs.Parts.{TakesText, WritesFront, waiting_text}
-use Rattle.std.specs.Str.{IsCharBoundary}
-use Rattle.data_url_c.specs.Bodies.{IsGoodBody, StepsBody}
+use Rattle.data_url_c.specs.Parts.{IsLeftOf, TakesText, is_good_state, waiting_text}
+use Rattle.data_url.specs.Parts.{WritesFront}
+use Rattle.data_url_c.specs.Bodies.{IsGoodBody, flag_of}
 use Rattle.data_url_c.specs.declared.body.DataUrlBody.{DataUrlBody}
-use Rattle.data_url_c.specs.Steps.Windows.{IsCut}
+use Rattle.data_url.specs.declared.forgiving_base64.left_over.LeftOver.{LeftOver}
+use Rattle.data_url.specs.declared.parts.body.Body.{Body}
 use Rattle.data_url_c.specs.declared.parts.DataUrlBase64.{DataUrlBase64}
-use Rattle.data_url_c.specs.declared.parts.DataUrlStep.{DataUrlStep}
-use Rattle.data_url_c.specs.declared.parts.Last.{Last}
 use Rattle.data_url_c.specs.declared.refusal.Refusal.{Refusal}
 
 -- true of every result
@@ -65,15 +63,6 @@ HasFragment url (Err (InvalidBase64 kind none)) =
     (bytes : List ℕ) × (url_body url ≡ Bad bytes kind) × (none.items ≡ [])
 HasFragment url (Err OutOfMemory) = Unit {0}
 HasFragment url (Err refusal) = ⊥
-
--- the call returns a fault of base64
-abbrev pub IsFault : Given → Type 0
-IsFault given = (kind : Kind) × (before : Vec ℕ Global) × (given ≡ Err (InvalidBase64 kind before))
-
--- the result in C of what a call returns; for a fault of base64 it can also be the result for a
--- failed allocation
-abbrev pub CrossesOrNot : Given → List ℕ → List ℕ → DataUrlAnswer → Type 0
-CrossesOrNot given old new r = Crosses given old new r ⊎ (IsFault given × Crosses (Err OutOfMemory) old new r)
 
 -- the number of bytes of a body, if it is good
 abbrev pub HasLength : Outcome → ℕ → Type 0
@@ -126,78 +115,28 @@ pub record GetsBytes {F E : Type 0} (step : F → List ℕ → Result (Unit {0})
   pub bytes_are : joined_pieces run ≡ bytes
   pub ended : Ended
 
--- the closure was called with the bytes of the groups of u that are complete before its first fault; r
--- is the error of the fault, or `Ok`
-abbrev pub GetsGroups : {F E : Type 0} → (F → List ℕ → Result (Unit {0}) E → F → Type 0) → F → List ℕ
-    → Result (Unit {0}) (DecodeError E) → F → Type 0
-GetsGroups step f u r g =
-    GetsBytes step f (complete_bytes u)
-    (MatchOption (first_fault u) (r ≡ Ok tt) (λ place. r ≡ Err (decode.InvalidBase64 (kind_of u)))) g
-
 -- the closure was called with the bytes of a body; r is the error of its fault, or `Ok`
 abbrev pub GetsBody : {F E : Type 0} → (F → List ℕ → Result (Unit {0}) E → F → Type 0) → F → Outcome
     → Result (Unit {0}) (DecodeError E) → F → Type 0
 GetsBody step f body r g = GetsBytes step f (outcome_bytes body) (Answers body AnyAnswer r) g
 
--- the bytes of the groups of u that are complete before its first fault were written; r has the status
--- of the fault, or 0
-pub record DecodesGroups (u before after : List ℕ) (r : DataUrlStep) : Type 0 where
-  pub wrote : WritesFront (complete_bytes u) before after r.len
-  pub ended : MatchOption (first_fault u) (r.status ≡ 0)
-      (λ place. r.status ≡ status_of_kind (kind_of u))
+-- if u has no fault, the state holds what is left over of u; otherwise later calls reject it
+abbrev pub IsKept : List ℕ → DataUrlBase64 → ℕ → Type 0
+IsKept u new status =
+    MatchOption (first_fault u) ((status ≡ 0) × IsLeftOf u new)
+    (λ place. (status ≡ status_of_kind (kind_of u)) × (is_good_state new ≡ false))
 
--- a text was fed after what was left over
-abbrev pub FeedsText : DataUrlBase64 → DataUrlBase64 → List ℕ → List ℕ → List ℕ → DataUrlStep → Type 0
-FeedsText old new text before after r =
-    TakesText (waiting_text old ++ text) new before after r.status r.len
+-- the state holds what is left over
+pub record HoldsLeft (s : DataUrlBase64) (left : LeftOver) : Type 0 where
+  pub good : is_good_state s ≡ true
+  pub symbols_are : s.symbols ≡ left.symbols
+  pub pending_is : s.pending ≡ left.pending
+  pub padding_is : s.padding ≡ left.padding
 
--- the last bytes of the text u if it is valid, or the status of its fault
-pub record IsLast (u : List ℕ) (last : Last) : Type 0 where
-  pub within : last.len ≤ 3
-  pub ended : MatchBool (is_valid u)
-      ((last.status ≡ 0) × (take last.len last.bytes ≡ decoded u))
-      ((last.status ≡ status_of_kind (kind_of u)) × (last.len ≡ 0))
-
--- whether a text has a fragment
-abbrev pub IsFragmentThere : List ℕ → Bool → Type 0
-IsFragmentThere text there = there ≡ is_some (after number_sign text)
-
--- the body of a text was fed after what was left over
-pub record FeedsBody (old new : DataUrlBase64) (text before after : List ℕ) (r : DataUrlStep)
-    (there : Bool) : Type 0 where
-  pub fed : FeedsText old new (plain_body text) before after r
-  pub fragment : r.status ≡ 0 → IsFragmentThere text there
-
--- the decoded bytes of u were written after those written before; or u is not valid, and nothing more
--- was written
-pub record EndsAfter (u : List ℕ) (written : ℕ) (before after : List ℕ) (r : DataUrlStep)
-    : Type 0 where
-  pub ended : MatchBool (is_valid u)
-      ((r.status ≡ 0) × (r.len ≡ written + length (decoded u))
-      × (after ≡ take written before ++ (decoded u ++ drop r.len before)))
-      ((r.status ≡ status_of_kind (kind_of u)) × (r.len ≡ written) × (after ≡ before))
-
--- the window is the part of the tail between two indices, and the tail can be cut at its end
-pub record IsWindowOf (tail : List ℕ) (from : ℕ) (window : List ℕ) (end : ℕ) : Type 0 where
-  pub order : from ≤ end
-  pub within : end ≤ length tail
-  pub window_is : window ≡ take (end - from) (drop from tail)
-  pub cut : IsCut window (drop end tail)
-  pub edge : IsCharBoundary tail end
-  pub goes_on : from < length tail → from < end
-
--- a window was found, and the room suffices for its body and three more bytes
-pub record IsPlanned (tail : List ℕ) (from room end : ℕ) : Type 0 where
-  pub order : from ≤ end
-  pub within : end ≤ length tail
-  pub start : IsCharBoundary tail from
-  pub edge : IsCharBoundary tail end
-  pub fits : length (plain_body (take (end - from) (drop from tail))) + 3 ≤ room
-  pub cut : IsCut (take (end - from) (drop from tail)) (drop end tail)
-  pub goes_on : from < length tail → from < end
-
--- the end of the next window, if the state is good and the room suffices; otherwise the result of the
--- call, which changes nothing
-abbrev pub IsPlan : List ℕ → DataUrlBody → ℕ → Result ℕ DataUrlStep → Type 0
-IsPlan tail s room (Ok end) = IsGoodBody tail s × (8 ≤ room) × IsPlanned tail s.from room end
-IsPlan tail s room (Err step) = (out : List ℕ) → length out ≡ room → StepsBody tail s s out out step
+-- the body goes on in the tail where the state says
+pub record IsBodyOf (tail : List ℕ) (s : DataUrlBody) (b : Body) : Type 0 where
+  pub good : IsGoodBody tail s
+  pub tail_is : b.tail.now ≡ tail
+  pub base64_is : b.base64 ≡ flag_of s
+  pub place_is : b.place ≡ s.from
+  pub left : HoldsLeft s.left b.left_over

@@ -1,8 +1,7 @@
 //! How a result is passed to C: as a status, a length, and bytes in the caller's output.
 
 ghost use Rattle.std.specs.Prelude.{◌≡◌};
-ghost use Rattle.data_url_c.specs.Answers.{Shows};
-ghost use Rattle.data_url_c.specs.Steps.{CrossesOrNot};
+ghost use Rattle.data_url_c.specs.Answers.{Crosses, Shows};
 
 use crate::kind::status_of;
 use crate::refusal::Refusal;
@@ -63,17 +62,13 @@ fn tell(status: u32) -> DataUrlAnswer
     DataUrlAnswer { status, len: 0 }
 }
 
-/// Returns the result for C of a call that returned bytes or an error. If the kind of a fault cannot be read, the
-/// status is that of a failed allocation.
+/// Returns the result for C of a call that returned bytes or an error.
 pub(crate) fn answer(given: Result<Vec<u8>, Refusal>, out: &mut [u8]) -> DataUrlAnswer
-    ensures { CrossesOrNot given out.old out.new result }
+    ensures { Crosses given out.old out.new result }
 {
     match given {
         Ok(bytes) => show(DONE, &bytes, out),
-        Err(Refusal::InvalidBase64(refusal, before)) => match status_of(&refusal) {
-            Some(status) => show(status, &before, out),
-            None => tell(OUT_OF_MEMORY),
-        },
+        Err(Refusal::InvalidBase64(refusal, before)) => show(status_of(&refusal), &before, out),
         Err(Refusal::NotADataUrl) => tell(NOT_A_DATA_URL),
         Err(Refusal::NoComma) => tell(NO_COMMA),
         Err(Refusal::OutOfMemory) => tell(OUT_OF_MEMORY),

@@ -6,7 +6,7 @@ ghost use Rattle.data_url.specs.MimeType.{record_of};
 ghost use Rattle.data_url_c.specs.Answers.{Answers, Shows};
 ghost use Rattle.data_url_c.specs.Forms.{part, parts_of, serialised};
 ghost use Rattle.data_url_c.specs.Gives.{GivesTypeInParts};
-ghost use Rattle.data_url_c.specs.Parts.{WritesFront};
+ghost use Rattle.data_url.specs.Parts.{WritesFront};
 ghost use Rattle.data_url_c.specs.Steps.{WritesForm, form_of};
 
 use crate::answer::{DONE, DataUrlAnswer, OUTPUT_TOO_SMALL, answer, show};

@@ -23,7 +23,7 @@
 
 ghost use Rattle.std.specs.Prelude.{IsUtf8};
 ghost use Rattle.data_url_c.specs.Answers.{Answers};
-ghost use Rattle.data_url_c.specs.Bodies.{DecodesTail, StepsBody};
+ghost use Rattle.data_url_c.specs.Bodies.{StepsBody};
 ghost use Rattle.data_url_c.specs.Gives.{GivesBase64, GivesBody, GivesFragment, GivesMime};
 ghost use Rattle.data_url_c.specs.Gives.{GivesType, GivesTypeInParts};
 ghost use Rattle.data_url_c.specs.Opens.{Opens, OpensInParts};
@@ -41,10 +41,8 @@ mod open;
 mod output;
 mod parts;
 mod refusal;
-mod tail;
 mod texts;
 mod whole;
-mod window;
 
 pub use answer::DataUrlAnswer;
 use answer::answer;
@@ -65,15 +63,6 @@ pub extern "C" fn dataurl_body(alloc: Global, url: &[u8], out: &mut [u8]) -> Dat
         Some(text) => whole::body(alloc, text, out),
         None => answer(Err(Refusal::NotUtf8), out),
     }
-}
-
-/// The body of a data: URL that is known to be UTF-8, and is not checked.
-#[unsafe(no_mangle)]
-pub extern "C" fn dataurl_body_utf8(alloc: Global, url: &[u8], out: &mut [u8]) -> DataUrlAnswer
-    requires { IsUtf8 url.now }
-    ensures { Answers (GivesBody url.now) out.old out.new result }
-{
-    whole::body(alloc, unsafe { str::from_utf8_unchecked(url) }, out)
 }
 
 /// The MIME type of a data: URL, as it is printed
@@ -165,19 +154,6 @@ pub extern "C" fn dataurl_open_parts_utf8(
     open::open(alloc, unsafe { str::from_utf8_unchecked(url) }, true, out)
 }
 
-/// Decodes the body of a tail, as opening a URL returns it
-/// ([Fetch Standard, section 6](https://fetch.spec.whatwg.org/#data-url-processor)), into an output that is at least as long.
-/// If the output is shorter than the tail, returns status 5 and the length of the tail. If its base64 is not valid, the output
-/// has the bytes before the first fault. Nothing is allocated. The tail is UTF-8, and
-/// is not checked.
-#[unsafe(no_mangle)]
-pub extern "C" fn dataurl_tail_utf8(tail: &[u8], is_base64: bool, out: &mut [u8]) -> DataUrlStep
-    requires { IsUtf8 tail.now }
-    ensures { DecodesTail is_base64 tail.now out.old out.new result }
-{
-    tail::decode_tail(unsafe { str::from_utf8_unchecked(tail) }, is_base64, out)
-}
-
 /// Feeds a part of base64
 /// ([Infra Standard, forgiving-base64 decode](https://infra.spec.whatwg.org/#forgiving-base64-decode)), cut anywhere, and
 /// writes the bytes of the groups that it completes. It reads the whole part if that has at most three bytes less than
@@ -204,7 +180,8 @@ pub extern "C" fn dataurl_base64_finish(state: &mut DataUrlBase64, out: &mut [u8
 
 /// Decodes the next part of a body into the output, without allocation
 /// ([Fetch Standard, section 6](https://fetch.spec.whatwg.org/#data-url-processor)). The state begins with `from` at 0 and
-/// nothing left over. Each call is passed the same tail. While the status is 11, the body goes on.
+/// nothing left over. Each call is passed the same tail, which may be any bytes. While the status is 11, the body goes on. With
+/// status 0 it has ended, and `from` is the place of the `#` before the fragment, or the length of the tail.
 #[unsafe(no_mangle)]
 pub extern "C" fn dataurl_body_next(
     state: &mut DataUrlBody,
@@ -214,17 +191,4 @@ pub extern "C" fn dataurl_body_next(
     ensures { StepsBody tail.now state.old state.new out.old out.new result }
 {
     body::next(state, tail, out)
-}
-
-/// Decodes the next part of a body as `dataurl_body_next` does. The tail is UTF-8, and is not checked.
-#[unsafe(no_mangle)]
-pub extern "C" fn dataurl_body_next_utf8(
-    state: &mut DataUrlBody,
-    tail: &[u8],
-    out: &mut [u8],
-) -> DataUrlStep
-    requires { IsUtf8 tail.now }
-    ensures { StepsBody tail.now state.old state.new out.old out.new result }
-{
-    body::next_utf8(state, tail, out)
 }

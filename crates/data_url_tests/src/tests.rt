@@ -8,6 +8,7 @@ mod errors;
 mod gaps;
 mod lines;
 mod mime;
+mod parts;
 mod recorder;
 mod sizes;
 mod urls;

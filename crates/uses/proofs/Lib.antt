@@ -3,4 +3,5 @@ pub mod ChunkLemmas
 pub mod LengthLemmas
 pub mod PageLemmas
 pub mod RankLemmas
+pub mod ReaderLemmas
 pub mod SinkLemmas

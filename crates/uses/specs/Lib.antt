@@ -4,4 +4,5 @@ pub mod Fetches
 pub mod Loads
 pub mod Pages
 pub mod Ranks
+pub mod Reads
 pub mod Steps

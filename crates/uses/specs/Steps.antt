@@ -1,7 +1,7 @@
 -- What private functions do: definitions that no contract of a public function uses.
 use Rattle.std.specs.Borrow.{Bor}
 use Rattle.std.specs.Io.KnownBytes.{Appends}
-use Rattle.std.specs.Prelude.{◌+◌, ◌<◌, ◌≡◌, ◌≤◌, Err, List, MatchOption, Ok, Option, Result, length, ℕ}
+use Rattle.std.specs.Prelude.{◌+◌, ◌-◌, ◌<◌, ◌≡◌, ◌≤◌, Err, List, MatchOption, Ok, Option, Result, length, ℕ}
 use Rattle.data_url.specs.DataUrl.{IsAcceptable, IsUrlOf}
 use Rattle.data_url.specs.Fetch.{staged}
 use Rattle.data_url.specs.Run.{IsPrefix}
@@ -13,6 +13,8 @@ use Rattle.uses.specs.declared.fetch.FetchError.TheVariants.{Network, OutOfMemor
 use Rattle.uses.specs.declared.fetch.FetchError.{FetchError}
 use Rattle.uses.specs.declared.loader.Refusal.TheVariants as refused
 use Rattle.uses.specs.declared.loader.Refusal.{Refusal}
+use Rattle.uses.specs.declared.reader.Rest.TheVariants.{Ended, Faulty, More}
+use Rattle.uses.specs.declared.reader.Rest.{Rest}
 
 -- a prefix of a text is appended to what a sink holds
 pub record TakesPrefix (text : List ℕ) (old new : Held) : Type 0 where
@@ -44,3 +46,9 @@ Opens t (Err OutOfMemory) = IsAcceptable (staged t)
 abbrev pub FindsReference : List ℕ → Option (Bor (List ℕ) × Bor (List ℕ) × Bor (List ℕ)) → Type 0
 FindsReference page found =
     MatchOption found (HasNoReference page) (λ cut. IsReference page cut.0.now cut.1.now cut.2.now)
+
+-- how many bytes of the tail are left, and one if there may be more of the body
+abbrev pub bytes_left : Rest → ℕ
+bytes_left (More body) = length body.tail.now - body.place + 1
+bytes_left Ended = 0
+bytes_left (Faulty kind) = 0

@@ -7,3 +7,4 @@ pub mod fetch;
 pub mod inliner;
 pub mod loader;
 pub mod negotiation;
+pub mod reader;

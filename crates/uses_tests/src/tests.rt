@@ -13,6 +13,7 @@ use uses::fetch::{FetchError, Reason, Response, content_length, fetch};
 use uses::inliner::{Part, inline};
 use uses::loader::{LoadError, load};
 use uses::negotiation::best;
+use uses::reader::{BodyReader, Rest};
 
 /// Asserts a fact about a text. A call is cheaper to prove than `assert!`.
 fn assert_that(rt: &impl Abort, about: &str, is_right: bool) {
@@ -88,6 +89,54 @@ fn a_body_with_a_fault(rt: HostRuntime) -> Result<(), Fail> {
     assert_that(&rt, text, !is_appended(&url, &mut bytes));
     assert_same(&rt, text, bytes.as_slice(), b"xABC");
     Ok(())
+}
+
+/// Reads a URL's body with an output of some bytes, again and again, and appends what is written. Returns what is
+/// left of the body.
+fn read_with<'a>(
+    url: &DataUrl<'a>,
+    output: &mut [u8],
+    bytes: &mut Vec<u8>,
+) -> Result<Rest<'a>, Fail> {
+    let mut reader = BodyReader::new(url);
+    for _ in 0..99 {
+        if !matches!(reader.rest(), Rest::More(_)) {
+            return Ok(reader.rest());
+        }
+        let len = reader.fill(output);
+        bytes.extend_from_slice(&output[..len])?;
+    }
+    Ok(reader.rest())
+}
+
+/// Asserts what is read of a URL's body with outputs of 4, 5 and 64 bytes, and whether it is valid.
+fn assert_read(
+    rt: &impl Abort,
+    alloc: Global,
+    text: &str,
+    is_valid: bool,
+    wanted: &[u8],
+) -> Result<(), Fail> {
+    let url = DataUrl::process(alloc, text)?;
+    let mut output = [0; 64];
+    for size in [4, 5, 64] {
+        let mut bytes = Vec::new(alloc);
+        let rest = read_with(&url, &mut output[..size], &mut bytes)?;
+        assert_that(rt, text, matches!(rest, Rest::Ended) == is_valid);
+        assert_that(rt, text, matches!(rest, Rest::Faulty(_)) != is_valid);
+        assert_same(rt, text, bytes.as_slice(), wanted);
+    }
+    Ok(())
+}
+
+#[test]
+fn a_body_is_read_with_outputs_of_any_size(rt: HostRuntime) -> Result<(), Fail> {
+    let text = "data:,Hello%20%0AWo\trld%21#x";
+    assert_read(&rt, rt.alloc(), text, true, b"Hello \nWorld!")?;
+    let text = "data:;base64,SGVs%62G8g V29ybGQh#x";
+    assert_read(&rt, rt.alloc(), text, true, b"Hello World!")?;
+    assert_read(&rt, rt.alloc(), "data:,", true, b"")?;
+    assert_read(&rt, rt.alloc(), "data:;base64,QUJDQUJD!", false, b"ABCABC")
 }
 
 /// Feeds chunks, and returns whether they are all taken, and whether the decoder has failed.

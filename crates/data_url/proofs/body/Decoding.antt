@@ -3,6 +3,7 @@
 use Rattle.std.proofs.Common.{Result, Ok, Err, refl, sym, ap, ◌∙◌, append_assoc, arith, length-append, Bool, MatchBool}
 use Rattle.std.proofs.Common.{Some, false, cond, length-drop, length-take, MatchOption, MatchResult, true, append-nil}
 use Rattle.std.proofs.Common.{◌≡◌, ℕ, ◌+◌, ◌≤◌, List, [], ◌∷◌, ◌++◌, Bor, length, Option, None, drop, take, inl, inr}
+use Rattle.std.proofs.Common.{max, ◌⊎◌}
 use Rattle.std.proofs.Common.{◌==◌, not, length-take-le, take-append-drop, take-take, take-add, ◌-◌, ◌<◌, ◌&&◌, ap₂}
 use Rattle.std.{proofs.Common.{get_or, get_or-take, get_or-drop, subst}, proofs.lemmas.Bool.{and_parts, cases_Bool}}
 use Rattle.std.{proofs.lemmas.List.{length-map}, proofs.lemmas.List.Folds.{list_all-append}}
@@ -12,7 +13,8 @@ use Rattle.data_url.specs.{Base64.{without_whitespace}, DataUrl.{Decodes, HandsO
 use Rattle.data_url.specs.{Decoder.{Feeds, Finishes, State, start}, Errors.{IsRefused}, Fetch.{Good, outcome_bytes}}
 use Rattle.data_url.specs.{Fetch.{plain_body, Bad, outcome, Outcome, tail_of}, Pieces.{Walk}, Run.{Call, IsRun}}
 use Rattle.data_url.specs.{Run.{joined_pieces, refusal, IsPrefix}, Steps.Chunks.{IsBodyFrom, IsBodyPrefix}}
-use Rattle.data_url.specs.{Steps.Chunks.{IsCallableUntilError, Takes, TakesOn, TakesRest}, Steps.Digits.{cleaned}}
+use Rattle.data_url.specs.{Steps.Chunks.{IsCallableUntilError, IsOver, Takes, TakesOn, TakesPart, TakesRest}}
+use Rattle.data_url.specs.{Steps.Chunks.{TakesUntil}, Steps.Digits.{cleaned}}
 use Rattle.data_url.specs.{Steps.Holding.{FeedsFront}, Steps.Tail.{IsBodyEnd}, Steps.Whole.{DecodesText}}
 use Rattle.data_url.specs.{Steps.Window.{is_plain}, Url.{is_tab_or_newline, number_sign, after, trimmed_text}}
 use Rattle.data_url.specs.{declared.DataUrl.{DataUrl}, declared.forgiving_base64.DecodeError.{DecodeError}}
@@ -51,11 +53,59 @@ module _ {F E : Type 0} (step : F → List ℕ → Result (Unit {0}) E → F →
         );
       }
 
+  -- the closure was called with bytes of a walk, and may be called with `left` more
+  pub record TakesSoFar (f : F) (w0 : Walk) (most left : ℕ) (g : F) (w : Walk) : Type 0 where
+    pub takes : TakesOn step f w0 g w
+    pub few : length (joined_pieces takes.run) + left ≡ most
+    pub goes : left < most → w0.place < w.place
+    pub all : length w0.text ≤ w0.place + most → length w0.text ≤ w.place + left
+
+  -- no call was made yet
+  pub takes_none : {f : F} {w : Walk} (most : ℕ) → w.place + length w.rest ≤ length w.text
+      → TakesSoFar f w most most f w
+  takes_none {f} {w} most short = record {
+    takes = record {
+      run = [];
+      ran = refl;
+      accepted = refl;
+      text_stays = refl;
+      calls = omega arith;
+      within = omega (arith, short);
+      short = short;
+      body = refl;
+    };
+    few = omega arith;
+    goes = λ l. absurd (omega (arith, l));
+    all = λ l. l;
+  }
+
+  -- one more call
+  pub takes_more : {f g h : F} {bytes : List ℕ} {w0 w w' : Walk} {most left : ℕ} → TakesSoFar f w0 most left g w
+      → Takes w bytes w' → length bytes ≤ left → step g bytes (Ok tt) h
+      → TakesSoFar f w0 most (left - length bytes) h w'
+  unfolding takes_on_call
+  takes_more {h = h} {bytes = bytes} {most = most} {left = left} a t few s =
+      let call : List (Call F E) = record { piece = bytes; answer = Ok tt; after = h } ∷ [] in
+      let all : joined_pieces (a.takes.run ++ call) ≡ joined_pieces a.takes.run ++ bytes =
+      joined_pieces-append a.takes.run call ∙ ap (λ x. joined_pieces a.takes.run ++ x) (append-nil bytes) in
+      let size : length (joined_pieces (a.takes.run ++ call)) + (left - length bytes) ≡ most =
+      omega (arith, ap length all, length-append (joined_pieces a.takes.run) bytes, a.few, few) in
+      record {
+        takes = takes_on_call a.takes t s;
+        few = size;
+        goes = λ l. omega (arith, a.takes.calls, t.place, t.some);
+        all = λ l. omega (arith, a.all l, t.place, few);
+      }
+
   -- the closure returned an error for the next bytes of the walk
-  pub rest_refused : {f g h : F} {bytes : List ℕ} {w0 w w' : Walk} {e : E} → TakesOn step f w0 g w → Takes w bytes w'
-      → step g bytes (Err e) h → TakesRest step f w0 (Err e) h
-  rest_refused {f} {g} {h} {bytes} {w0} {w} {w'} {e} a t s =
+  pub takes_refused : {f g h : F} {bytes : List ℕ} {w0 w w' : Walk} {most left : ℕ} {e : E}
+      → TakesSoFar f w0 most left g w → Takes w bytes w' → length bytes ≤ left → step g bytes (Err e) h
+      → TakesUntil step f w0 most e h
+  takes_refused {f} {g} {h} {bytes} {w0} {w} {w'} {most} {left} {e} so t few s =
+      let a = so.takes in
       let call = record { piece = bytes; answer = Err e; after = h } ∷ [] in
+      let joined : joined_pieces (a.run ++ call) ≡ joined_pieces a.run ++ bytes =
+      joined_pieces-append a.run call ∙ ap (λ x. joined_pieces a.run ++ x) (append-nil bytes) in
       record {
         run = a.run ++ call;
         ran = run-append step a.run call f g h a.ran a.accepted (s, λ e. refl, refl);
@@ -69,20 +119,74 @@ module _ {F E : Type 0} (step : F → List ℕ → Result (Unit {0}) E → F →
           ap length a.text_stays,
           ap length t.text_stays,
         );
-        gave = (
-          refusal-append a.run call a.accepted,
-          (
-            w'.rest,
-            cc (
-              a.body,
-              t.rest_is,
-              joined_pieces-append a.run call,
-              append-nil bytes,
-              append_assoc (joined_pieces a.run) bytes w'.rest,
-            ),
-          ),
+        few = omega (arith, ap length joined, length-append (joined_pieces a.run) bytes, so.few, few);
+        refused = refusal-append a.run call a.accepted;
+        begins = (
+          w'.rest,
+          cc (a.body, t.rest_is, joined, append_assoc (joined_pieces a.run) bytes w'.rest),
         );
       }
+
+  -- the walk is at its end
+  pub takes_over : {f g : F} {w0 w w' : Walk} {most left : ℕ} → TakesSoFar f w0 most left g w → IsOver w w'
+      → TakesPart step f w0 most g w'
+  takes_over {w' = w'} so over =
+      let a = so.takes in
+      record {
+        takes = record {
+          run = a.run;
+          ran = a.ran;
+          accepted = a.accepted;
+          text_stays = over.text_stays ∙ a.text_stays;
+          calls = omega (arith, a.calls, over.place);
+          within = over.within;
+          short = omega (arith, over.within, ap length over.over);
+          body = cc (a.body, over.rest_is, over.over);
+        };
+        few = omega (arith, so.few);
+        goes = λ l n. absurd (let e = over.ended in cc);
+        all = λ l. over.ended;
+      }
+
+  -- the walk is known to be at its end
+  pub takes_ended : {f g : F} {w0 w : Walk} {most left : ℕ} → TakesSoFar f w0 most left g w → w.ended ≡ true
+      → TakesPart step f w0 most g w
+  takes_ended so e = record {
+    takes = so.takes;
+    few = omega (arith, so.few);
+    goes = λ l n. absurd (cc);
+    all = λ l. e;
+  }
+
+  -- the walk goes on, but fewer bytes may be taken than are worth it
+  pub takes_enough : {f g : F} {w0 w : Walk} {most left least : ℕ} → TakesSoFar f w0 most left g w → left < least
+      → (1 ≤ most → least ≤ most) → left < length w.text - w.place → TakesPart step f w0 most g w
+  takes_enough so l few n = record {
+    takes = so.takes;
+    few = omega (arith, so.few);
+    goes = λ some _. so.goes (omega (arith, few some));
+    all = λ whole. absurd (omega (arith, so.all whole, ap length so.takes.text_stays));
+  }
+
+-- a closure that took the next bytes of a walk, up to the end of the body, took the rest
+pub rest_taken : {F E : Type 0} {step : F → List ℕ → Result (Unit {0}) E → F → Type 0} {f g : F} {w w' : Walk}
+    {most place : ℕ} → TakesPart step f w most g w' → w'.rest ≡ [] → IsBodyEnd w'.text place
+    → TakesRest step f w (Ok place) g
+rest_taken {w = w} {w' = w'} part over end =
+    let t = part.takes in
+    record {
+      run = t.run;
+      ran = t.ran;
+      calls = omega (arith, t.calls, t.within, ap length t.text_stays);
+      gave = (rw t.text_stays at end, t.accepted, cc (t.body, over, append-nil (joined_pieces t.run)));
+    }
+
+-- the next bytes of a walk are not more than what may be taken, if that is not nothing, or the rest
+-- of the text is not more
+pub next_fits : {w w' : Walk} {bytes : List ℕ} {left most : ℕ} → Takes w bytes w' → most ≡ max left 1
+    → length bytes ≤ most → (1 ≤ left) ⊎ (length w.text - w.place ≤ left) → length bytes ≤ left
+next_fits t e few (inl l) = omega arith
+next_fits t e few (inr l) = omega (arith, t.place, t.within, t.some, ap length t.text_stays)
 
 -- what each call that succeeds preserves is true after a closure took the rest of a body
 pub rest_preserves : {F E : Type 0} {step : F → List ℕ → Result (Unit {0}) E → F → Type 0} {f g : F} {w : Walk}
@@ -199,9 +303,9 @@ front_fragment tail at plain =
     cc ((plain_front (take at tail) (drop at tail) plain).1, take-append-drop at tail)
 
 -- the bytes are the body of the tail, but for white space
-record IsBodyOf (tail bytes : List ℕ) : Type 0 where
-  few : length bytes ≤ length tail
-  alike : without_whitespace (plain_body tail) ≡ without_whitespace bytes
+pub record IsBodyOf (tail bytes : List ℕ) : Type 0 where
+  pub few : length bytes ≤ length tail
+  pub alike : without_whitespace (plain_body tail) ≡ without_whitespace bytes
 
 -- a part of a tail ends where the tail does, at the latest
 part_within : (tail : List ℕ) {part : List ℕ} (at m : ℕ) → part ≡ take m (drop at tail)
@@ -226,7 +330,7 @@ part_byte tail at m n l is =
     ap (λ t. get_or t n 0) is ∙ get_or-take m (drop at tail) n 0 few ∙ get_or-drop at tail n 0
 
 -- the front of a tail as it is, and then the body from there on
-front_body : (tail : List ℕ) (at : ℕ) → at ≤ length tail → list_all is_plain (take at tail) ≡ true
+pub front_body : (tail : List ℕ) (at : ℕ) → at ≤ length tail → list_all is_plain (take at tail) ≡ true
     → IsBodyOf tail (take at tail ++ plain_body (drop at tail))
 front_body tail at within plain =
     let front = plain_front (take at tail) (drop at tail) plain in
@@ -242,50 +346,12 @@ front_body tail at within plain =
       alike = ap (λ t. without_whitespace (plain_body t)) (sym (take-append-drop at tail)) ∙ front.0;
     }
 
--- the result, with the place as its value if it is `Ok`
-abbrev at_place : {E : Type 0} → ℕ → Result (Unit {0}) (DecodeError E) → Result ℕ (DecodeError E)
-at_place place (Ok x) = Ok place
-at_place place (Err e) = Err e
-
--- if q is `Ok place` where p is `Ok`, and otherwise has the error of p, then q is p with the place in it
-mapped : {E : Type 0} (place : ℕ) (p : Result (Unit {0}) (DecodeError E)) (q : Result ℕ (DecodeError E))
-    → MatchResult p (λ x. q ≡ Ok place) (λ e. q ≡ Err e) → at_place place p ≡ q
-mapped place (Ok x) q m = sym m
-mapped place (Err e) q m = sym m
-
 -- texts that are equal without white space have the same outcome, if they are base64
-outcome_alike : (x y : List ℕ) → without_whitespace x ≡ without_whitespace y → outcome true x ≡ outcome true y
+pub outcome_alike : (x y : List ℕ) → without_whitespace x ≡ without_whitespace y → outcome true x ≡ outcome true y
 unfolding outcome
 outcome_alike x y e = cc (valid_alike x y e, decoded_alike x y e, done_alike x y e, kind_alike x y e)
 
 module _ {F E : Type 0} (step : F → List ℕ → Result (Unit {0}) E → F → Type 0) where
-  -- a text that was decoded as a whole, or refused by the closure, gives a good body if it is valid, or a bad one
-  gives : (u bytes : List ℕ) (place : ℕ) (good : ℕ → Type 0) (r : Result (Unit {0}) (DecodeError E)) (o : Option E)
-      (v : Bool) → (r ≡ Ok tt → good place)
-      → MatchOption o (MatchBool v ((bytes ≡ decoded u) × (r ≡ Ok tt)) ((bytes ≡ complete_bytes u)
-      × (r ≡ Err (InvalidBase64 (kind_of u))))) (λ e. IsRefused (cond v (decoded u) (complete_bytes u)) bytes e r)
-      → MatchOption o (HandsOut (cond v (Good (decoded u)) (Bad (complete_bytes u) (kind_of u))) good bytes
-      (at_place place r)) (λ e. IsRefused
-      (outcome_bytes (cond v (Good (decoded u)) (Bad (complete_bytes u) (kind_of u)))) bytes e (at_place place r))
-  gives u bytes place good r None true g h = grind arith
-  gives u bytes place good r None false g h = grind arith
-  gives u bytes place good r (Some e) true g h = grind arith
-  gives u bytes place good r (Some e) false g h = grind arith
-
-  -- the outcome of a text
-  outcome_whole : {f g : F} {text u : List ℕ} (place : ℕ) (r : Result (Unit {0}) (DecodeError E))
-      → length u ≤ length text → DecodesText step f u r g → (r ≡ Ok tt → IsBodyEnd text place)
-      → Decodes step f (length text + 1) (outcome true u) (IsBodyEnd text) (at_place place r) g
-  unfolding outcome
-  outcome_whole {f} {g} {text} {u} place r few d b = grind arith
-
-  -- the outcome of a body, from a text that is the same but for white space
-  outcome_of : {f g : F} {text u : List ℕ} (place : ℕ) (r : Result (Unit {0}) (DecodeError E)) → IsBodyOf text u
-      → DecodesText step f u r g → (r ≡ Ok tt → IsBodyEnd text place)
-      → Decodes step f (length text + 1) (outcome true (plain_body text)) (IsBodyEnd text) (at_place place r) g
-  outcome_of {f} {g} {text} {u} place r e d b =
-      rw (outcome_alike (plain_body text) u e.alike) (outcome_whole place r e.few d b)
-
   -- after the front of a tail, a decoder is fed some of a part of it
   pub front_more : {d d1 d2 : State F} {tail part : List ℕ} {r : Result (Unit {0}) (DecodeError E)} (at m n : ℕ)
       → part ≡ take m (drop at tail) → FeedsFront step d tail at (Ok tt) d1 → FeedsFront step d1 part n r d2
@@ -298,61 +364,6 @@ module _ {F E : Type 0} (step : F → List ℕ → Result (Unit {0}) E → F →
             (list_all-append is_plain (take at tail) (take n part) ∙ ap₂ (λ a b. a && b) k.plain h.plain);
         feeds = subst (λ t. Feeds step d t r d2) joined (feeds_then step k.feeds h.feeds);
       }
-
-  -- the front of a tail has a fault, or the closure returned an error
-  pub front_refused : {f : F} {d d' : State F} {tail : List ℕ} {x : DecodeError E} → d ≡ start f
-      → (place : ℕ) × FeedsFront step d tail place (Err x) d'
-      → Decodes step f (length tail + 1) (outcome true (plain_body tail)) (IsBodyEnd tail) (Err x) d'.closure
-  front_refused {tail = tail} {x = x} e h =
-      let fed = feeds_err step (plain_body (drop h.0 tail)) (rw e at h.1.feeds) in
-      outcome_of 0 (Err x) (front_body tail h.0 h.1.within h.1.plain) (decodes_refused step refl fed) (λ e. absurd (cc))
-
-module _ {C F E : Type 0} {outer : C → List ℕ → Result (Unit {0}) (DecodeError E) → C → Type 0}
-    (step : F → List ℕ → Result (Unit {0}) E → F → Type 0) (state : C → State F)
-    (feeds : (p : C) (piece : List ℕ) (r : Result (Unit {0}) (DecodeError E)) (q : C) → outer p piece r q
-    → Feeds step (state p) piece r (state q)) where
-  -- a run of calls, each of which feeds the decoder its piece, feeds the decoder all the pieces, joined, after a text
-  fed : {f : F} (text : List ℕ) (c c' : C) (run : List (Call C (DecodeError E)))
-      → Feeds step (start f) text (Ok tt) (state c) → IsRun outer c run c'
-      → MatchOption (refusal run) (Feeds step (start f) (text ++ joined_pieces run) (Ok tt) (state c'))
-      (λ e. Feeds step (start f) (text ++ joined_pieces run) (Err e) (state c'))
-  fed {f} text c c' run s ran =
-      run_ends outer run c c' ran (λ bytes q. Feeds step (start f) (text ++ bytes) (Ok tt) (state q))
-      (λ bytes e q. Feeds step (start f) (text ++ bytes) (Err e) (state q))
-      (λ bytes p piece q k o. rw (append_assoc text bytes piece) at (feeds_then step k (feeds p piece (Ok tt) q o)))
-      (λ bytes p piece e q k o. rw (append_assoc text bytes piece) at (feeds_then step k (feeds p piece (Err e) q o)))
-      (rw (append-nil text) s)
-
-  -- after the front of a tail, a closure that feeds the decoder takes the rest of the body up to an error
-  pub fed_refused : {f : F} {c c' : C} {d : State F} {tail : List ℕ} {place : ℕ} {w : Walk}
-      {r : Result ℕ (DecodeError E)} {x : DecodeError E} → d ≡ start f → FeedsFront step d tail place (Ok tt) (state c)
-      → IsBodyFrom tail place w → TakesRest outer c w r c' → r ≡ Err x
-      → Decodes step f (length tail + 1) (outcome true (plain_body tail)) (IsBodyEnd tail) (Err x) (state c').closure
-  fed_refused {f} {c} {c'} {d} {tail} {place} {w} {r} {x} s front from took e =
-      let t = rw e at took in
-      let k = match_at (refusal t.run) (Some x) _ _ (sym t.gave.0)
-      (fed (take place tail) c c' t.run (rw s at front.feeds) t.ran) in
-      let whole : (take place tail ++ joined_pieces t.run) ++ t.gave.1.0 ≡ take place tail
-      ++ plain_body (drop place tail) =
-      cc (from.rest_is, t.gave.1.1, append_assoc (take place tail) (joined_pieces t.run) t.gave.1.0) in
-      outcome_of step 0 (Err x) (front_body tail place front.within front.plain)
-      (decodes_refused step refl (rw whole at (feeds_err step t.gave.1.0 k))) (λ e. absurd (cc))
-
-  -- then it takes the whole body, and the decoder is finished
-  pub fed_ended : {f g : F} {c c' : C} {d : State F} {tail : List ℕ} {place end : ℕ} {w : Walk}
-      {r : Result ℕ (DecodeError E)} {p : Result (Unit {0}) (DecodeError E)} {q : Result ℕ (DecodeError E)}
-      → d ≡ start f → FeedsFront step d tail place (Ok tt) (state c) → IsBodyFrom tail place w
-      → TakesRest outer c w r c'
-      → r ≡ Ok end → Finishes step (state c') p g → MatchResult p (λ x. q ≡ Ok end) (λ e. q ≡ Err e)
-      → Decodes step f (length tail + 1) (outcome true (plain_body tail)) (IsBodyEnd tail) q g
-  fed_ended {f} {g} {c} {c'} {d} {tail} {place} {end} {w} {r} {p} {q} s front from took e ended m =
-      let t = rw e at took in
-      let k = match_at (refusal t.run) None _ _ (sym t.gave.1)
-      (fed (take place tail) c c' t.run (rw s at front.feeds) t.ran) in
-      let whole : take place tail ++ joined_pieces t.run ≡ take place tail ++ plain_body (drop place tail) =
-      cc (from.rest_is, t.gave.2) in
-      rw (sym (mapped end p q m)) (outcome_of step end p (front_body tail place front.within front.plain)
-      (decodes_finished step refl (rw whole at k) ended) (λ _. rw from.text_is at t.gave.0))
 
 -- how decoding a body ended, with what is then true of the closure and the bytes that it was called with
 abbrev pub EndsWith : {F E A : Type 0} → (List ℕ → F → Type 0) → (List ℕ → E → F → Type 0) → Outcome → (A → Type 0) → F

@@ -15,7 +15,7 @@ use Rattle.std.specs.{Int.Count.{count_trailing_zeros}, List.{prefix_len}, Simd.
 use Rattle.std.specs.Simd.Lanes.{put_chunk, top, zip2}
 use Rattle.data_url.proofs.classes.Lookups.{four_rows, looked_up, places_ok}
 use Rattle.data_url.{proofs.escapes.Reading.{escape_ends, paid_on, paid_percent}, specs.Steps.Walk.{IsBlock, IsClear}}
-use Rattle.data_url.specs.Steps.{Walk.{IsNextMark, Looking}, Window.{is_marked}}
+use Rattle.data_url.specs.Steps.{Walk.{IsMarkUpTo, IsNextMark, Looking}, Window.{is_marked}}
 use Rattle.data_url.specs.declared.escapes.{lanes.TheConstants.{MARKED}, marks.Block.{Block}, source.Source.{Source}}
 use borrow.Rule.Slice.PartMut.{mid_of, post_of, put_mid}
 
@@ -211,14 +211,33 @@ clear_then {place = place} e a b = λ k l m. elim (cases_lt k place) [
 ]
 
 -- the next mark after a stretch without marks is the next one from its start on
-pub mark_then : {text text' : List ℕ} {from place mark : ℕ} → text' ≡ text → from ≤ place → IsClear text from place
-    → IsNextMark text' place mark → IsNextMark text from mark
+pub mark_then : {text text' : List ℕ} {from place end mark : ℕ} → text' ≡ text → from ≤ place → IsClear text from place
+    → IsNextMark text' place mark → IsMarkUpTo text from end mark
 mark_then e l a m = record {
   forward = omega (arith, m.forward);
   within = rw e at m.within;
   clear = clear_then e a m.clear;
-  marked = rw e at m.marked;
+  marked = λ _. rw e at m.marked;
+}
+
+-- a mark that is looked for up to the end of the text is the next one
+pub mark_whole : {text : List ℕ} {from end mark : ℕ} → IsMarkUpTo text from end mark → end ≡ length text
+    → IsNextMark text from mark
+mark_whole {text} {from} {end} {mark} m e = record {
+  forward = m.forward;
+  within = m.within;
+  clear = m.clear;
+  marked = λ l. m.marked (omega arith) l;
 }
 
 -- the lemmas for `next_mark` and `at_mark`
-pub ruleset mark_places = (paid_percent, escape_ends, drop_more, looking_mark, looking_seen, clear_then, mark_then)
+pub ruleset mark_places = (
+  paid_percent,
+  escape_ends,
+  drop_more,
+  looking_mark,
+  looking_on,
+  looking_seen,
+  clear_then,
+  mark_then,
+)

@@ -1,14 +1,18 @@
 -- The pieces of a walk, and the bytes that it gathers. For `Cursor` and `Pieces`.
 use Rattle.std.proofs.Common.{Some, refl, sym, ap, ◌∙◌, inl, inr, arith, length-append, Bool, ◌≢◌, Option, ◌*◌, cond}
 use Rattle.std.proofs.Common.{drop-drop, length-drop, append-nil, ◌≡◌, ℕ, ◌+◌, ◌-◌, ◌<◌, ◌≤◌, true, List, [], ◌∷◌, ◌++◌}
-use Rattle.std.proofs.Common.{length, take, drop, get_or, None, length-take-le, set, append_assoc, take-add}
+use Rattle.std.proofs.Common.{length, take, drop, get_or, None, length-take, length-take-le, set, append_assoc}
+use Rattle.std.proofs.Common.{take-add}
+use Rattle.std.proofs.Common.{Bor, false, leb, ltb, min, ◌&&◌}
 use Rattle.std.{proofs.Common.{slice_range}, proofs.lemmas.List.{drop_more, drop_all, take_more_set}}
 use Rattle.std.{proofs.lemmas.List.{append_cancel_right}, proofs.lemmas.List.Folds.{drop_split}}
-use Rattle.std.proofs.lemmas.Str.{IsCharBoundary-after_ascii}
+use Rattle.std.proofs.lemmas.{Bool.{cases_lt}, Str.{IsCharBoundary-after_ascii}}
 use Rattle.data_url.specs.{Fetch.{plain_body}, Pieces.{Walk, text_of, IsStretch, bytes_of, has_ended, is_slice_end}}
-use Rattle.data_url.specs.{Pieces.{walk_of}, Steps.Chunks.{IsBodyPrefix, IsOver, Takes}, Steps.Digits.{EscapeAt}}
+use Rattle.data_url.specs.{Pieces.{walk_of}, Steps.Digits.{EscapeAt}}
+use Rattle.data_url.specs.Steps.Chunks.{IsBodyFrom, IsBodyPrefix, IsOver, Takes}
 use Rattle.data_url.specs.{Steps.Digits.{cleaned}, Steps.Tail.{BeginsFragment, IsBodyEnd, rest_fragment}}
-use Rattle.data_url.specs.Steps.Walk.{Ended, EndsAt, Gathers, GoesOn, IsClear, IsNextMark, IsPart, Knows, KnowsAhead}
+use Rattle.data_url.specs.Steps.Walk.{Ended, EndsAt, Gathers, GoesOn, IsClear, IsMarkUpTo, IsNextMark, IsPart, Knows}
+use Rattle.data_url.specs.Steps.Walk.{KnowsAhead}
 use Rattle.data_url.specs.{Steps.Walk.{Looking, LooksOn, MayGather, Pays, Reads, Searching, Spells}, Url.{before}}
 use Rattle.data_url.specs.{Url.{after, front, without_tabs_and_newlines}, declared.escapes.Piece.{Piece}}
 use Rattle.data_url.specs.{declared.escapes.Piece.TheVariants.{Byte, Slice}, declared.escapes.cursor.Ahead.{Ahead}}
@@ -58,12 +62,18 @@ spelled {text} {raw} {bytes} {from} {to} s =
     append_cancel_right _ _ (cleaned y)
     (cc (without_tabs_and_newlines-append x y, front (after-dropped_none 35 refl x no), s.raw_is))
 
--- a stretch goes on up to the next mark
-pub searching_clear : {text : List ℕ} {from place to mark : ℕ} → Searching text from place to → IsNextMark text to mark
-    → Searching text from place mark
-searching_clear {text} {from} {place} {to} {mark} s m =
-    let more = spells_then s.stretch (spells_clear text to mark m.forward m.within m.clear) in
+-- a stretch goes on over bytes of which none is marked
+pub searching_clear : {text : List ℕ} {from place to mark : ℕ} → Searching text from place to → to ≤ mark
+    → mark ≤ length text → IsClear text to mark → Searching text from place mark
+searching_clear {text} {from} {place} {to} {mark} s l w clear =
+    let more = spells_then s.stretch (spells_clear text to mark l w clear) in
     grind (arith, slice_join text place to mark)
+
+-- a stretch goes on up to any index before the next mark
+pub searching_part : {text : List ℕ} {from place to end mark : ℕ} → Searching text from place to
+    → IsMarkUpTo text to end mark → to ≤ end → end ≤ mark → Searching text from place end
+searching_part s m l few =
+    searching_clear s l (omega (arith, m.within)) (λ k from_le to_lt. m.clear k from_le (omega arith))
 
 -- a '%' that does not begin an escape is part of the stretch
 pub searching_percent : {text : List ℕ} {from place mark : ℕ} → Searching text from place mark
@@ -86,26 +96,63 @@ byte_part {text} {from} {place} {value} {end} s q =
     let all = spells_then s (spells_escape q) in
     grind (arith, spelled all, decoded_escape q.high q.low [] q.high_hex q.low_hex, percent_nil)
 
+-- a walk that goes from its index to the end of a part returns this part
+pub goes_part : {c c' : Cursor} {text : List ℕ} {next most : ℕ} {p : Piece} → text ≡ text_of c
+    → IsPart text c.place next p → LooksOn c.source c'.source → c'.place ≡ next → length (bytes_of p) ≤ most
+    → GoesOn c (Some p) c' most
+goes_part {c} {c'} {text} {next} {most} {p} t h on e few = grind arith
+
+-- a walk that goes on after a stretch, and what is skipped after it, returns the stretch
+pub slice_goes : {c c' : Cursor} {text : List ℕ} {place mark next most : ℕ} {slice : Bor (List ℕ)} → text ≡ text_of c
+    → Searching text c.place place mark → place < mark → mark ≤ place + most → is_slice_end (drop mark text) ≡ true
+    → Spells text mark next [] [] → slice.now ≡ slice_range text place mark → LooksOn c.source c'.source
+    → c'.place ≡ next → GoesOn c (Some (Slice slice)) c' most
+slice_goes {text = text} {place = place} {mark = mark} t s l few ends after is on e =
+    let part = slice_part s l ends after is in
+    goes_part t (record { reads = part.0; piece_is = part.1 }) on e
+    (omega (arith, ap length is, length-take (mark - place) (drop place text)))
+
+-- a walk returns a stretch that is cut after so many bytes as it may return
+pub slice_cut : {c c' : Cursor} {text : List ℕ} {place to most : ℕ} {slice : Bor (List ℕ)} → text ≡ text_of c
+    → Searching text c.place place to → place + most ≡ to → to ≤ length text → slice.now ≡ slice_range text place to
+    → LooksOn c.source c'.source → c'.place ≡ to → GoesOn c (Some (Slice slice)) c' most
+slice_cut {c} {c'} {text} {place} {to} {most} {slice} t s cut within is on e =
+    let size : length slice.now ≡ most =
+    omega (arith, ap length is, length-take (to - place) (drop place text), length-drop place text) in
+    let reads = (spells_then s.passed s.stretch).reads in
+    record {
+      on = on;
+      reads = grind arith;
+      few = omega (arith, size);
+      piece = λ l. absurd (omega (arith, size));
+      ended = tt;
+    }
+
+-- a stretch is cut before its end and that of the text
+pub cut_at : (end mark total : ℕ) → (leb end mark && ltb end total) ≡ true → (end ≤ mark) × (end < total)
+cut_at end mark total e = grind arith
+
+-- a stretch that is not cut has at most so many bytes as may be returned
+pub not_cut : (place most end mark total : ℕ) → end ≡ min (place + most) 18446744073709551615
+    → (leb end mark && ltb end total) ≡ false → mark ≤ total → mark ≤ place + most
+not_cut place most end mark total e other l = grind arith
+
 -- the walk can go on after what it read
 pub looking_paid : {s s' : Source} {b : Block} {mark to more : ℕ} → Looking s b mark 0 → s'.text.now ≡ s.text.now
     → Pays s.text.now mark to s.looks s'.looks more → Looking s' b to more
 looking_paid {s} {s'} {b} {mark} {to} {more} k t p = grind arith
 
 -- a search that finds the next mark, in a text that stays the same, goes up to it
-pub searched : {s0 s s1 : Source} {from place to mark : ℕ} → LooksOn s0 s → LooksOn s s1
-    → Searching s0.text.now from place to → IsNextMark s.text.now to mark → Searching s1.text.now from place mark
-searched {s0} {s} {s1} {from} {place} {to} {mark} a b k m =
-    rw (b.text_stays) (searching_clear (rw (sym a.text_stays) at k) m)
-
--- a walk that goes from its index to the end of a part returns this part
-pub goes_part : {c c' : Cursor} {text : List ℕ} {next : ℕ} {p : Piece} → text ≡ text_of c
-    → IsPart text c.place next p → LooksOn c.source c'.source → c'.place ≡ next → GoesOn c (Some p) c'
-goes_part {c} {c'} {text} {next} {p} t h on e = grind arith
+pub searched : {s0 s s1 : Source} {from place to end mark : ℕ} → LooksOn s0 s → LooksOn s s1
+    → Searching s0.text.now from place to → IsMarkUpTo s.text.now to end mark → Searching s1.text.now from place mark
+searched {s0} {s} {s1} {from} {place} {to} {end} {mark} a b k m =
+    rw (b.text_stays) (searching_clear (rw (sym a.text_stays) at k) m.forward m.within m.clear)
 
 -- a walk that goes from its index to the end of an escape returns its value
-pub byte_next : {c c' : Cursor} {value end : ℕ} → EscapeAt (text_of c) c.place value end → LooksOn c.source c'.source
-    → c'.place ≡ end → GoesOn c (Some (Byte value)) c'
-byte_next {c} {c'} {value} {end} q on e = goes_part refl (byte_part (grind (arith, spells_none)) q) on e
+pub byte_next : {c c' : Cursor} {value end most : ℕ} → EscapeAt (text_of c) c.place value end
+    → LooksOn c.source c'.source
+    → c'.place ≡ end → 1 ≤ most → GoesOn c (Some (Byte value)) c' most
+byte_next {c} {c'} {value} {end} q on e some = goes_part refl (byte_part (grind (arith, spells_none)) q) on e some
 
 -- after an escape that was read at once, the walk can go on in the same way
 pub looking_escape : {s s' : Source} {b : Block} {place : ℕ} → Looking s b place 3 → s'.text.now ≡ s.text.now
@@ -218,15 +265,25 @@ pub rest_over : {c : Cursor} → Knows c → has_ended c.ahead ≡ true → plai
 rest_over {c} k e = grind (arith, ends_empty, ended_of)
 
 -- a piece has at least one byte
-piece_some : (p : Piece) {c c' : Cursor} → GoesOn c (Some p) c' → 0 < length (bytes_of p)
-piece_some (Slice slice) {c} {c'} g = grind (arith, length-drop, length-take-le)
-piece_some (Byte byte) g = omega arith
+piece_some : (p : Piece) {c c' : Cursor} {most : ℕ} → 1 ≤ most → GoesOn c (Some p) c' most → 0 < length (bytes_of p)
+piece_some (Slice slice) {c} {c'} {most} some g = elim (cases_lt (length slice.now) most) [
+  | inl l ↦ let is = g.piece l in grind (arith, length-drop, length-take-le)
+  | inr l ↦ omega arith
+]
+piece_some (Byte byte) some g = omega arith
 
 -- a walk that has ended returns no further piece
-pub again : (next : Option Piece) {c c' : Cursor} → Knows c → GoesOn c next c' → has_ended c.ahead ≡ true → next ≡ None
-again None k g e = refl
-again (Some p) {c} {c'} k g e =
-    grind (arith, piece_some p g, rest_over k e, length-append (bytes_of p) (plain_body (drop c'.place (text_of c))))
+pub again : (next : Option Piece) {c c' : Cursor} {most : ℕ} → 1 ≤ most → Knows c → GoesOn c next c' most
+    → has_ended c.ahead ≡ true → next ≡ None
+again None some k g e = refl
+again (Some p) {c} {c'} some k g e =
+    grind (
+      arith,
+      piece_some p some g,
+      rest_over k e,
+      length-append (bytes_of p) (plain_body (drop c'.place
+          (text_of c))),
+    )
 
 -- a walk has read at most three times as many bytes as its text has
 pub few_looks : {c : Cursor} → Knows c → c.source.looks ≤ 3 * length (text_of c)
@@ -239,18 +296,27 @@ takes_gathered {c} {c'} {room0} {room} {len} g l =
     let short = short_rest (text_of c') c'.place (grind arith) in grind arith
 
 -- if nothing was gathered, and then came a piece, the walk returns the bytes of the piece
-pub takes_next : {c c1 c2 : Cursor} {room0 room : List ℕ} {len : ℕ} (p : Piece) → Gathers c c1 room0 room 0 len
-    → len ≡ 0 → GoesOn c1 (Some p) c2 → Takes (walk_of c) (bytes_of p) (walk_of c2)
-takes_next {c} {c1} {c2} {room0} {room} {len} p g e h =
-    let short = short_rest (text_of c2) c2.place (grind arith) in grind (arith, piece_some)
+pub takes_next : {c c1 c2 : Cursor} {room0 room : List ℕ} {len most : ℕ} (p : Piece) → Gathers c c1 room0 room 0 len
+    → len ≡ 0 → 1 ≤ most → GoesOn c1 (Some p) c2 most → Takes (walk_of c) (bytes_of p) (walk_of c2)
+takes_next {c} {c1} {c2} {room0} {room} {len} p g e some h =
+    let short = short_rest (text_of c2) c2.place (grind arith) in grind (arith, piece_some p some h)
 
 -- if nothing was gathered, and then came no piece, the walk is at its end
-pub over_next : {c c1 c2 : Cursor} {room0 room : List ℕ} {len : ℕ} → Gathers c c1 room0 room 0 len → len ≡ 0
-    → GoesOn c1 None c2 → Knows c2 → IsOver (walk_of c) (walk_of c2)
+pub over_next : {c c1 c2 : Cursor} {room0 room : List ℕ} {len most : ℕ} → Gathers c c1 room0 room 0 len → len ≡ 0
+    → GoesOn c1 None c2 most → Knows c2 → IsOver (walk_of c) (walk_of c2)
 over_next {c} {c1} {c2} g e h k = grind (arith, rest_over)
 
 -- the lemmas for pieces
-pub ruleset stretches = (looking_escape, looking_paid, byte_part, byte_next, goes_part, slice_part, searched)
+pub ruleset stretches = (
+  looking_escape,
+  looking_paid,
+  byte_part,
+  byte_next,
+  goes_part,
+  slice_part,
+  slice_goes,
+  searched,
+)
 
 -- the lemmas for the functions that gather bytes
 pub ruleset gathering = (gathers_byte, gathers_nothing, gathers_then, gathers_escape, reads_escape, ended_at)
@@ -261,5 +327,21 @@ pub ruleset walks = (stretches, gathering, marks_padded, spells_none, spells_the
 -- the lemmas for `Source`
 pub ruleset sources = (copied_wide, marks_padded, padded_is, hash_at, drop_all, IsCharBoundary-after_ascii)
 
--- the lemmas for `Pieces`
-pub ruleset walking = (body_end, rest_over, again, few_looks)
+-- a walk is within its text
+placed : (c : Cursor) (a : Ahead) → KnowsAhead c a → c.place ≤ length (text_of c)
+placed c Unknown k = k.within
+placed c AfterEscape k = k.within
+placed c (Escape value end) k = let three = k.0.three in omega (arith, k.0.within)
+placed c End k = k.ends.within
+
+-- a walk goes on from its index
+pub goes_from : {c : Cursor} → Knows c → IsBodyFrom (text_of c) c.place (walk_of c)
+goes_from {c} k = record {
+  text_is = refl;
+  place_is = refl;
+  rest_is = refl;
+  short = short_rest (text_of c) c.place (placed c c.ahead k.ahead_is);
+}
+
+-- the lemmas for `Pieces` and `Walk`
+pub ruleset walking = (body_end, rest_over, again, few_looks, goes_from)

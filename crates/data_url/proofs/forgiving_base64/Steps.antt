@@ -14,7 +14,7 @@ use Rattle.data_url.specs.{Base64.{symbol_value, values}, Mime.{Every}, Run.{IsR
 use Rattle.data_url.specs.Decoder.{Feeds, Finishes, State, left_over, IsLeft, IsTaken}
 use Rattle.data_url.specs.{Errors.{IsRefused}, Laws.{GoesOn}, declared.forgiving_base64.DecodeError.{DecodeError}}
 use Rattle.data_url.specs.Steps.Holding.{Adds, CallsOnce, Refuses}
-use Rattle.data_url.specs.declared.forgiving_base64.left_over.State as left
+use Rattle.data_url.specs.declared.forgiving_base64.left_over.LeftOver as left
 use Rattle.data_url.specs.declared.forgiving_base64.DecodeError.TheVariants.{WriteError, InvalidBase64}
 use Rattle.data_url.specs.declared.forgiving_base64.InvalidBase64Details.TheVariants.{AlphabetSymbolAfterPadding}
 use Rattle.data_url.specs.declared.forgiving_base64.InvalidBase64Details.TheVariants.{LoneAlphabetSymbol, Padding}
@@ -231,7 +231,7 @@ pub record IsSound (q : List ℕ) (p : ℕ) : Type 0 where
   pub few_padding : p ≤ 3
 
 -- it holds of each state, by its invariants
-pub sound : (s : left.State) → IsSound (take s.pending s.symbols) s.padding
+pub sound : (s : left.LeftOver) → IsSound (take s.pending s.symbols) s.padding
 sound s = grind (arith, every_list_all, length-take)
 
 module _ {F : Type 0} where

@@ -40,17 +40,15 @@ taken_invalid u bytes r x d None q h t = grind (arith, none_fault)
 taken_invalid u bytes r x d (Some c) q h t = grind (arith, fault_invalid)
 
 module _ {F E : Type 0} (step : F → List ℕ → Result (Unit {0}) E → F → Type 0) where
-  -- an error while the text is fed
-  refused_fed : {d d' : State F} {u : List ℕ} {x : DecodeError E} → Feeds step d u (Err x) d' → left_over d ++ u ≡ u
-      → DecodesText step d.closure u (Err x) d'.closure
-  refused_fed {d} {d'} {u} {x} f same =
-      let G : List ℕ → Type 0 = λ w. MatchOption (refusal f.run) (IsTaken w (joined_pieces f.run) (Err x) d')
-      (λ e. IsRefused {A = Unit {0}} (complete_bytes w) (joined_pieces f.run) e (Err x)) in
-      let gave : G u = subst G same f.gave in
+  -- an error while a text is fed after what was left over
+  pub refused_after : {d d' : State F} {a : List ℕ} {x : DecodeError E} → Feeds step d a (Err x) d'
+      → DecodesText step d.closure (left_over d ++ a) (Err x) d'.closure
+  refused_after {d} {d'} {a} {x} f =
+      let u : List ℕ = left_over d ++ a in
       record {
         run = f.run;
         ran = f.ran;
-        calls = omega (arith, f.calls);
+        calls = omega (arith, f.calls, length-append (left_over d) a);
         gave = match_map (refusal f.run) _ _ _ _
             (taken_invalid u (joined_pieces f.run) (Err x) x d' (fault_byte false u) refl refl)
             (λ e h. record {
@@ -58,17 +56,17 @@ module _ {F E : Type 0} (step : F → List ℕ → Result (Unit {0}) E → F →
                   (whole_bytes u) h.bytes_begin (done_whole u);
               answer = h.answer;
             })
-            gave;
+            f.gave;
       }
 
-  -- fed and finished
-  fed_finished : {d d' : State F} {u : List ℕ} {r : Result (Unit {0}) (DecodeError E)} {f' : F}
-      → Feeds step d u (Ok tt) d' → left_over d ++ u ≡ u → Finishes step d' r f' → DecodesText step d.closure u r f'
-  fed_finished {d} {d'} {u} {r} {f'} f same g =
+  -- a text is fed after what was left over, and finished
+  pub finished_after : {d d' : State F} {a : List ℕ} {r : Result (Unit {0}) (DecodeError E)} {f' : F}
+      → Feeds step d a (Ok tt) d' → Finishes step d' r f' → DecodesText step d.closure (left_over d ++ a) r f'
+  finished_after {d} {d'} {a} {r} {f'} f g =
+      let u : List ℕ = left_over d ++ a in
       let k = feeds_took step f in
-      let taken : joined_pieces f.run ≡ complete_bytes u = k.1.bytes_are ∙ ap complete_bytes same in
-      let G : List ℕ → Type 0 = λ w. GoesOn w [] (left_over d' ++ []) in
-      let on : G u = subst G same (feeds_goes_on step [] f) in
+      let taken : joined_pieces f.run ≡ complete_bytes u = k.1.bytes_are in
+      let on : GoesOn u [] (left_over d' ++ []) = feeds_goes_on step [] f in
       let valid : is_valid u ≡ is_valid (left_over d') = cc (append-nil u, append-nil (left_over d')) in
       let kind : kind_of u ≡ kind_of (left_over d') = cc (append-nil u, append-nil (left_over d')) in
       let all : decoded u ≡ complete_bytes u ++ decoded (left_over d') = cc (append-nil u, append-nil (left_over d')) in
@@ -77,7 +75,7 @@ module _ {F E : Type 0} (step : F → List ℕ → Result (Unit {0}) E → F →
       record {
         run = f.run ++ g.run;
         ran = run-append step f.run g.run d.closure d'.closure f' f.ran k.0 g.ran;
-        calls = omega (arith, f.calls, g.calls, length-append f.run g.run);
+        calls = omega (arith, f.calls, g.calls, length-append f.run g.run, length-append (left_over d) a);
         gave = match_at (refusal g.run) (refusal (f.run ++ g.run)) _ _ (refusal-append f.run g.run k.0)
             (elim (split_bool (is_valid (left_over d')) _ _ g.gave) [
               | inl (v, h) ↦
@@ -103,14 +101,15 @@ module _ {F E : Type 0} (step : F → List ℕ → Result (Unit {0}) E → F →
   -- if feeding a new decoder the text u returns an error, decoding u returns it
   pub decodes_refused : {d d' : State F} {f : F} {u : List ℕ} {x : DecodeError E} → d ≡ start f
       → Feeds step d u (Err x) d' → DecodesText step f u (Err x) d'.closure
-  decodes_refused {d} {d'} {f} {u} {x} e g = grind (arith, refused_fed)
+  decodes_refused {d} {d'} {f} {u} {x} e g =
+      let P : State F → Type 0 = λ s. Feeds step s u (Err x) d' in refused_after (subst P e g)
 
   -- feeding a new decoder the text u and then finishing it decodes u
   pub decodes_finished : {d d' : State F} {f f' : F} {u : List ℕ} {r : Result (Unit {0}) (DecodeError E)} → d ≡ start f
       → Feeds step d u (Ok tt) d' → Finishes step d' r f' → DecodesText step f u r f'
   decodes_finished {d} {d'} {f} {f'} {u} e g h =
       let P : State F → Type 0 = λ s. Feeds step s u (Ok tt) d' in
-      fed_finished (subst P e g) refl h
+      finished_after (subst P e g) h
 
 -- A closure that appends its bytes
 

@@ -130,7 +130,7 @@ run_ends step cs f g ran kept stopped accepts refuses start =
 
 -- what each call that succeeds preserves, a property of the bytes so far and the state, is true after a run without an
 -- error
-run_kept : {F E : Type 0} (step : F → List ℕ → Result (Unit {0}) E → F → Type 0) (cs : List (Call F E)) (f g : F)
+pub run_kept : {F E : Type 0} (step : F → List ℕ → Result (Unit {0}) E → F → Type 0) (cs : List (Call F E)) (f g : F)
     → IsRun step f cs g → refusal cs ≡ None → (kept : List ℕ → F → Type 0)
     → ((bytes : List ℕ) (p : F) (piece : List ℕ) (q : F) → kept bytes p → step p piece (Ok tt) q
     → kept (bytes ++ piece) q) → kept [] f → kept (joined_pieces cs) g

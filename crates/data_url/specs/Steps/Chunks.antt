@@ -2,7 +2,7 @@
 use Rattle.std.specs.Borrow.{Bor}
 use Rattle.std.specs.Fn.{CalledAt, Mut}
 use Rattle.std.specs.Prelude.{[], ◌++◌, ◌+◌, ◌<◌, ◌≡◌, ◌≤◌, List, MatchOption, MatchResult, None, Option, Result, Some}
-use Rattle.std.specs.Prelude.{drop, length, true, ℕ}
+use Rattle.std.specs.Prelude.{drop, false, length, true, ℕ}
 use Rattle.data_url.specs.Fetch.{plain_body}
 use Rattle.data_url.specs.Pieces.{Walk}
 use Rattle.data_url.specs.Run.{Call, IsPrefix, IsRun, joined_pieces, refusal}
@@ -21,6 +21,9 @@ pub record Takes (w : Walk) (bytes : List ℕ) (w' : Walk) : Type 0 where
 pub record IsOver (w w' : Walk) : Type 0 where
   pub text_stays : w'.text ≡ w.text
   pub rest_is : w.rest ≡ []
+  pub over : w'.rest ≡ []
+  pub place : w.place ≤ w'.place
+  pub within : w'.place ≤ length w'.text
   pub ended : w'.ended ≡ true
 
 -- the walk w returns the next bytes of its body, or none at the end, and is w' after that
@@ -71,3 +74,33 @@ pub record TakesRest {F E : Type 0} (step : F → List ℕ → Result (Unit {0})
   pub gave : MatchResult r
       (λ place. IsBodyEnd w.text place × (refusal run ≡ None) × (w.rest ≡ joined_pieces run))
       (λ e. (refusal run ≡ Some e) × IsPrefix (joined_pieces run) w.rest)
+
+-- the closure f was called with at most `most` bytes of the body of the walk w up to where it is
+-- w', and is g after that; no
+-- call returned an error. The walk goes on if it may; if the rest of the text has no more bytes
+-- than that, the body ended.
+pub record TakesPart {F E : Type 0} (step : F → List ℕ → Result (Unit {0}) E → F → Type 0)
+    (f : F) (w : Walk) (most : ℕ) (g : F) (w' : Walk) : Type 0 where
+  pub takes : TakesOn step f w g w'
+  pub few : length (joined_pieces takes.run) ≤ most
+  pub goes : 1 ≤ most → w'.ended ≡ false → w.place < w'.place
+  pub all : length w.text ≤ w.place + most → w'.ended ≡ true
+
+-- the closure returned an error for the next bytes of the walk w, or for some after those; these
+-- are at most `most` bytes
+pub record TakesUntil {F E : Type 0} (step : F → List ℕ → Result (Unit {0}) E → F
+    → Type 0) (f : F) (w : Walk) (most : ℕ)
+    (e : E) (g : F) : Type 0 where
+  pub run : List (Call F E)
+  pub ran : IsRun step f run g
+  pub calls : w.place + length run ≤ length w.text
+  pub few : length (joined_pieces run) ≤ most
+  pub refused : refusal run ≡ Some e
+  pub begins : IsPrefix (joined_pieces run) w.rest
+
+-- the closure was called with the next bytes of a walk, or returned an error
+abbrev pub TakesWithin : {F E : Type 0} → (F → List ℕ → Result (Unit {0}) E → F → Type 0) → F → Walk → ℕ
+    → Result (Unit {0}) E → F → Walk → Type 0
+TakesWithin step f w most r g w' = MatchResult r
+    (λ u. TakesPart step f w most g w')
+    (λ e. TakesUntil step f w most e g)

@@ -7,11 +7,11 @@ use Rattle.data_url.specs.Decoder.{Feeds, IsLeft, State, left_over}
 use Rattle.data_url.specs.Run.{Call, IsRun, joined_pieces, refusal}
 use Rattle.data_url.specs.declared.forgiving_base64.DecodeError.TheVariants.{WriteError}
 use Rattle.data_url.specs.declared.forgiving_base64.DecodeError.{DecodeError}
-use Rattle.data_url.specs.declared.forgiving_base64.left_over.State as left
+use Rattle.data_url.specs.declared.forgiving_base64.left_over.LeftOver as left
 use Rattle.data_url.specs.Steps.Window.{is_plain}
 
 -- what a text leaves over, as the state of a decoder that has no closure and has not failed
-abbrev pub left_state : left.State → State (Unit {0})
+abbrev pub left_state : left.LeftOver → State (Unit {0})
 left_state s =
     record { closure = tt; symbols = take s.pending s.symbols; padding = s.padding; failed = false }
 
@@ -98,8 +98,8 @@ pub record FeedsFront {F E : Type 0} (step : F → List ℕ → Result (Unit {0}
   pub feeds : Feeds step d (take place tail) r d'
 
 -- feeding d a tail up to its first '#' or '%' returns the place of that byte, or the length of the tail, or an error
-abbrev pub FeedsUnescaped : {F E : Type 0} → (F → List ℕ → Result (Unit {0}) E → F → Type 0) → State F → List ℕ
-    → Result ℕ (DecodeError E) → State F → Type 0
+abbrev pub FeedsUnescaped : {F E : Type 0} → (F → List ℕ → Result (Unit {0}) E → F → Type 0)
+    → State F → List ℕ → Result ℕ (DecodeError E) → State F → Type 0
 FeedsUnescaped step d tail r d' = MatchResult r
     (λ place. FeedsFront step d tail place (Ok tt) d'
     × (place < length tail → is_plain (slice_index tail place) ≡ false))

@@ -48,6 +48,15 @@ pub record IsNextMark (text : List ℕ) (from to : ℕ) : Type 0 where
   pub clear : IsClear text from to
   pub marked : to < length text → is_marked (slice_index text to) ≡ true
 
+-- the second index is that of the first marked byte from the first index on, or of the end of the
+-- text; or it comes after
+-- `end`, and no byte before it is marked
+pub record IsMarkUpTo (text : List ℕ) (from end to : ℕ) : Type 0 where
+  pub forward : from ≤ to
+  pub within : to ≤ length text
+  pub clear : IsClear text from to
+  pub marked : to ≤ end → to < length text → is_marked (slice_index text to) ≡ true
+
 -- the body ends at the index
 pub record EndsAt (text : List ℕ) (place : ℕ) : Type 0 where
   pub within : place ≤ length text
@@ -127,11 +136,13 @@ pub record Gathering (c : Cursor) : Type 0 where
   pub plain : IsPlain c.ahead
   pub knows : KnowsAhead c c.ahead
 
--- a walk returns its next piece, or ends
-pub record GoesOn (c : Cursor) (next : Option Piece) (c' : Cursor) : Type 0 where
+-- a walk returns its next piece, or ends. A piece has at most `most` bytes; if it has as many, it
+-- may have been cut there.
+pub record GoesOn (c : Cursor) (next : Option Piece) (c' : Cursor) (most : ℕ) : Type 0 where
   pub on : LooksOn c.source c'.source
   pub reads : Reads (text_of c) c.place c'.place (bytes_of_next next)
-  pub piece : IfSome next (IsPiece (text_of c) c.place c'.place)
+  pub few : length (bytes_of_next next) ≤ most
+  pub piece : IfSome next (λ p. length (bytes_of p) < most → IsPiece (text_of c) c.place c'.place p)
   pub ended : IfNone next (has_ended c'.ahead ≡ true)
 
 -- bytes are appended to a buffer

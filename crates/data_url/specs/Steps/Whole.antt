@@ -32,5 +32,6 @@ vec_error (WriteError e) = to_vec.OutOfMemory
 
 -- a body in a vector, and the place in its tail where it ends; or the error, as `decode_to_vec` of a URL returns it
 abbrev pub IsBodyInVec : Bool → List ℕ → Result (Vec ℕ Global × ℕ) DecodeToVecError → Type 0
-IsBodyInVec flag tail (Ok found) = (outcome flag (plain_body tail) ≡ Good found.0.items) × IsBodyEnd tail found.1
+IsBodyInVec flag tail (Ok found) =
+    (outcome flag (plain_body tail) ≡ Good found.0.items) × IsBodyEnd tail found.1
 IsBodyInVec flag tail (Err e) = IsBodyErrorOf (outcome flag (plain_body tail)) e

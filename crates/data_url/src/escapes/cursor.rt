@@ -37,7 +37,7 @@ pub(super) struct Cursor<'a> {
 
 impl<'a> Cursor<'a> {
     /// A walk that begins at the start of a text.
-    pub(super) fn new(text: &'a str) -> Self
+    pub(super) fn new(text: &'a [u8]) -> Self
         ensures walk { walk_of result ≡ walk_at_start text.entry.now }
         ensures unread { result.source.looks ≡ 0 }
         ensures knows { Knows result }
@@ -56,13 +56,12 @@ impl<'a> Cursor<'a> {
 
     /// A walk that begins at a place of a text. The body ends there if the text does, or if a `#` is there.
     #[inline(always)]
-    pub(super) fn from_place(text: &'a str, place: usize) -> Self
+    pub(super) fn from_place(text: &'a [u8], place: usize) -> Self
         requires within { place ≤ length text.now }
         requires no_hash { after number_sign (drop place text.now) ≡ after number_sign text.now }
         ensures from { IsBodyFrom text.entry.now place (walk_of result) }
         ensures knows { Knows result }
     {
-        let bytes = text.as_bytes();
         Cursor {
             source: Source::new(text),
             block: Block {
@@ -71,7 +70,7 @@ impl<'a> Cursor<'a> {
                 marks: 0,
             },
             place,
-            ahead: if place == bytes.len() || bytes[place] == b'#' {
+            ahead: if place == text.len() || text[place] == b'#' {
                 Ahead::End
             } else {
                 Ahead::Unknown
@@ -94,9 +93,10 @@ impl<'a> Cursor<'a> {
             seen: usize::from(is_percent),
             marks: u64::from(is_percent),
         };
-        let mark = self.block.next_mark(&mut self.source, 0);
+        let len = self.source.len();
+        let mark = self.block.next_mark(&mut self.source, 0, len);
         self.place = mark;
-        self.ahead = if mark == self.source.len() {
+        self.ahead = if mark == len {
             Ahead::End
         } else {
             Ahead::Unknown
@@ -104,11 +104,12 @@ impl<'a> Cursor<'a> {
         self.source.cut(0, mark)
     }
 
-    /// The next piece.
+    /// The next piece, of at most a number of bytes: a slice is cut after that many.
     #[inline(always)]
-    pub(super) fn next(&mut self) -> Option<Piece<'a>>
-        requires { Knows self.old }
-        ensures goes { GoesOn self.old result self.new }
+    pub(super) fn next(&mut self, most: usize) -> Option<Piece<'a>>
+        requires knows { Knows self.old }
+        requires some { 1 ≤ most }
+        ensures goes { GoesOn self.old result self.new most }
         ensures knows { Knows self.new }
     {
         match self.ahead {
@@ -126,20 +127,27 @@ impl<'a> Cursor<'a> {
             }
             Ahead::AfterEscape | Ahead::Unknown => {}
         }
-        self.next_stretch()
+        self.next_stretch(most)
     }
 
-    /// The next piece, of which nothing is known.
+    /// The next piece, of which nothing is known, of at most a number of bytes.
     #[inline(always)]
-    fn next_stretch(&mut self) -> Option<Piece<'a>>
-        requires { Looking self.old.source self.old.block self.old.place 0 }
-        ensures goes { GoesOn self.old result self.new }
+    fn next_stretch(&mut self, most: usize) -> Option<Piece<'a>>
+        requires looking { Looking self.old.source self.old.block self.old.place 0 }
+        requires some { 1 ≤ most }
+        ensures goes { GoesOn self.old result self.new most }
         ensures knows { KnowsAhead self.new self.new.ahead }
     {
         let mut from = self.place;
         loop {
-            let mark = self.block.next_mark(&mut self.source, from);
             let place = self.place;
+            let end = place.saturating_add(most);
+            let mark = self.block.next_mark(&mut self.source, from, end);
+            if (end <= mark) & (end < self.source.len()) {
+                self.place = end;
+                self.ahead = Ahead::Unknown;
+                return Some(Piece::Slice(self.source.cut(place, end)));
+            }
             let slice = self.source.cut(place, mark);
             match self.source.at_mark(mark, false) {
                 AtMark::Stays => from = mark + 1,

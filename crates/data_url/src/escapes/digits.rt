@@ -102,7 +102,7 @@ impl<'a> Source<'a> {
         ensures text { self.new.text.now ≡ self.old.text.now }
         ensures found { IsDigitFrom self.old.text.now place self.old.looks self.new.looks result }
     {
-        let mut source = replace(self, Source::new(""));
+        let mut source = replace(self, Source::new(&[]));
         let found = source.digit_by_loop(place);
         *self = source;
         found

@@ -2,7 +2,7 @@
 
 #![tactic(auto, using(crate::proofs::escapes::Walking::walks))]
 
-ghost use Rattle.std.specs.{Option.{option_map_or}, Prelude.{◌≡◌, ◌<◌, ◌≤◌, IfSome, slice_index, true}};
+ghost use Rattle.std.specs.{Option.{option_map_or}, Prelude.{◌≡◌, ◌<◌, ◌≤◌, IfSome, length, slice_index, true}};
 ghost use Rattle.data_url.specs.{Pieces.{text_of, walk_of}, Steps.Chunks.{GivesBytes}, Steps.Window.{is_marked}};
 ghost use Rattle.data_url.specs.Steps.Walk.{Gathered, Gathering, Gathers, HasRoom, IsGathered, IsWide, Knows, Looking, MayGather, Moves};
 
@@ -22,13 +22,53 @@ const DENSE: u32 = 18;
 pub(super) type Buffer = [u8; BUFFER_LEN];
 
 impl<'a> Cursor<'a> {
-    /// The next bytes: a long stretch, or shorter ones and the values of escapes, gathered in a buffer. None at the end of the body.
+    /// The next bytes, at most a number of them: a long stretch, or shorter ones and the values of escapes, gathered in a buffer if
+    /// all that it holds, or the rest of the text, is not more. None at the end of the body.
     #[inline(always)]
-    pub(super) fn next_bytes<'r>(&mut self, room: &'r mut Buffer) -> Option<&'r [u8]>
+    pub(super) fn next_bytes<'r>(&mut self, room: &'r mut Buffer, most: usize) -> Option<&'r [u8]>
     where
         'a: 'r,
-        requires { Knows self.old }
+        requires knows { Knows self.old }
+        requires some { 1 ≤ most }
         ensures gives { GivesBytes (walk_of self.old) result (walk_of self.new) }
+        ensures few { IfSome result (λ bytes. length bytes.now ≤ most) }
+        ensures knows { Knows self.new }
+    {
+        let len = self.gather_within(room, most);
+        if len > 0 {
+            return Some(&room[..len]);
+        }
+        match self.next(most) {
+            None => None,
+            Some(Piece::Slice(slice)) => Some(slice),
+            Some(Piece::Byte(byte)) => {
+                room[0] = byte;
+                Some(&room[..1])
+            }
+        }
+    }
+
+    /// Does what `gather` does, if at most a number of bytes can be gathered, and otherwise nothing.
+    #[inline(always)]
+    fn gather_within(&mut self, room: &mut Buffer, most: usize) -> usize
+        requires { Knows self.old }
+        ensures gathers { Gathers self.old self.new room.old room.new 0 result }
+        ensures few { (result ≤ 512) × (result ≤ most) }
+        ensures knows { Knows self.new }
+    {
+        if most < BUFFER_LEN && most < self.source.len().saturating_sub(self.place) {
+            return 0;
+        }
+        self.gather(room)
+    }
+
+    /// Gathers the next short stretches and the values of escapes in a buffer, until it is full, the body ends or a long stretch
+    /// begins. Returns how many bytes are gathered.
+    #[inline(always)]
+    fn gather(&mut self, room: &mut Buffer) -> usize
+        requires { Knows self.old }
+        ensures gathers { Gathers self.old self.new room.old room.new 0 result }
+        ensures few { result ≤ 512 }
         ensures knows { Knows self.new }
     {
         let mut len = 0;
@@ -45,17 +85,7 @@ impl<'a> Cursor<'a> {
         while let Some(more) = self.gather_more(room, len) {
             len = more;
         }
-        if len > 0 {
-            return Some(&room[..len]);
-        }
-        match self.next() {
-            None => None,
-            Some(Piece::Slice(slice)) => Some(slice),
-            Some(Piece::Byte(byte)) => {
-                room[0] = byte;
-                Some(&room[..1])
-            }
-        }
+        len
     }
 
     /// Gathers the next block, or what is left of the last one, after the bytes that were gathered before. Returns how many

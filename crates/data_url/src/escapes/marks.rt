@@ -3,7 +3,7 @@
 #![tactic(auto, using(crate::proofs::escapes::BlockMarks::mark_places))]
 
 ghost use Rattle.std.specs.Prelude.{IsTrue, ◌≡◌, ◌+◌, ◌^◌, ◌<◌, ◌≤◌, MatchOption, length, slice_index, true};
-ghost use Rattle.data_url.specs.Steps.{Walk.{IsAtMark, IsClear, IsNextMark, Looking, LooksOn}, Window.{is_marked}};
+ghost use Rattle.data_url.specs.Steps.{Walk.{IsAtMark, IsClear, IsMarkUpTo, IsNextMark, Looking, LooksOn}, Window.{is_marked}};
 
 use super::lanes::marks_of;
 use super::source::{Source, last_marks};
@@ -45,13 +45,15 @@ impl Block {
         Some(place + marks.trailing_zeros() as usize)
     }
 
-    /// The place of the first marked byte from a place on, or the end of the text.
+    /// The place of the first marked byte from a place on, or the end of the text. If there is none up to an end, the bytes after
+    /// that are not looked for: a place after it is returned, before which no byte is marked.
     #[inline(always)]
-    pub(super) fn next_mark(&mut self, source: &mut Source<'_>, from: usize) -> usize
+    pub(super) fn next_mark(&mut self, source: &mut Source<'_>, from: usize, end: usize) -> usize
         requires { Looking source.old self.old from 0 }
         ensures looking { Looking source.new self.new result 0 }
+        ensures at_end { from ≤ end → end ≤ result → Looking source.new self.new end 0 }
         ensures on { LooksOn source.old source.new }
-        ensures mark { IsNextMark source.old.text.now from result }
+        ensures mark { IsMarkUpTo source.old.text.now from end result }
     {
         let mut place = from;
         if place < self.seen {
@@ -60,7 +62,11 @@ impl Block {
             }
             place = self.seen;
         }
-        while source.len() - place >= BLOCK {
+        let blocks_end = source
+            .len()
+            .saturating_sub(BLOCK - 1)
+            .min(end.saturating_add(1));
+        while place < blocks_end {
             let bytes = source.look_bytes(place);
             *self = Block {
                 base: place,
@@ -72,7 +78,7 @@ impl Block {
             }
             place += BLOCK;
         }
-        if place == source.len() {
+        if place == source.len() || place > end {
             return place;
         }
         let rest = source.look_rest(place);

@@ -17,14 +17,14 @@ use std::simd::prelude::*;
 /// A text with a count of the bytes examined.
 #[derive(Drop)]
 pub(super) struct Source<'a> {
-    text: &'a str,
+    text: &'a [u8],
     looks: Looks,
 }
 
 impl<'a> Source<'a> {
     /// A text of which no byte was examined yet.
     #[inline(always)]
-    pub(super) fn new(text: &'a str) -> Self
+    pub(super) fn new(text: &'a [u8]) -> Self
         ensures text { result.text.now ≡ text.entry.now }
         ensures looks { result.looks ≡ 0 }
     {
@@ -52,7 +52,7 @@ impl<'a> Source<'a> {
         ensures looks { self.new.looks ≡ self.old.looks + 1 }
     {
         self.looks.count(1);
-        self.text.as_bytes()[place]
+        self.text[place]
     }
 
     /// Returns the 64 bytes at a place. Each counts as a look.
@@ -64,7 +64,7 @@ impl<'a> Source<'a> {
         ensures looks { self.new.looks ≡ self.old.looks + 64 }
     {
         self.looks.count(BLOCK);
-        u8x64::from_slice(&self.text.as_bytes()[place..])
+        u8x64::from_slice(&self.text[place..])
     }
 
     /// Returns the text from a place on. Each of its bytes counts as a look.
@@ -75,7 +75,7 @@ impl<'a> Source<'a> {
         ensures text { self.new.text.now ≡ self.old.text.now }
         ensures looks { self.new.looks + place ≡ self.old.looks + length self.old.text.now }
     {
-        let rest = &self.text.as_bytes()[place..];
+        let rest = &self.text[place..];
         self.looks.count(rest.len());
         rest
     }
@@ -87,7 +87,7 @@ impl<'a> Source<'a> {
         requires within { end ≤ length self.now.text.now }
         ensures { result.now ≡ slice_range self.now.text.now start end }
     {
-        &self.text.as_bytes()[start..end]
+        &self.text[start..end]
     }
 
     /// Copies a stretch of at most 64 bytes into a buffer, without a look. The bytes after it in the buffer may be overwritten.
@@ -101,21 +101,13 @@ impl<'a> Source<'a> {
         ensures { take (len + (end - start)) room.new
             ≡ take len room.old ++ slice_range self.now.text.now start end }
     {
-        let bytes = self.text.as_bytes();
+        let bytes = self.text;
         if wide {
             let block = u8x64::from_slice(&bytes[start..start + BLOCK]);
             block.copy_to_slice(&mut room[len..len + BLOCK]);
         } else {
             room[len..len + (end - start)].copy_from_slice(&bytes[start..end]);
         }
-    }
-
-    /// Returns the fragment of a text whose body ends at a place.
-    pub(super) fn fragment(&self, place: usize) -> Option<&'a str>
-        requires { IsBodyEnd self.now.text.now place }
-        ensures { option_map (λ s. s.now) result ≡ after number_sign self.now.text.now }
-    {
-        fragment_at(self.text, place)
     }
 }
 

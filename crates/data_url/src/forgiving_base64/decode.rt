@@ -4,7 +4,7 @@ ghost use Rattle.std.specs.Prelude.{◌≡◌, ◌%◌, ◌≤◌, [], Err, Matc
 
 use super::alphabet::{decode_block, group_of, is_of_symbols};
 use super::held::{FULL, HeldGroups};
-use super::left_over::State;
+use super::left_over::LeftOver;
 use super::{DecodeError, InvalidBase64, InvalidBase64Details};
 use crate::classes::lanes::BLOCK;
 use std::simd::prelude::*;
@@ -23,7 +23,7 @@ where
     F: FnMut(&[u8]) -> Result<(), E>,
 {
     write_bytes: F,
-    state: State,
+    state: LeftOver,
     failed: bool,
 }
 
@@ -33,6 +33,7 @@ where
 {
     ghost use Rattle.std.specs.Fn.{CalledAt};
     ghost use Rattle.data_url.specs.{Decoder.{Feeds, Finishes, start, state_of}, Steps.Holding.{CallsOnce, EndsWithin, FeedsUnescaped, Flushes, Reads, ReadsText}};
+    ghost use Rattle.data_url.specs.Steps.Parts.{HoldsLeft, IsResumed};
 
     /// Returns a decoder that has been fed nothing yet. The closure has to accept any bytes, whatever it was called
     /// with before.
@@ -43,13 +44,33 @@ where
     {
         Decoder {
             write_bytes,
-            state: State {
+            state: LeftOver {
                 symbols: [0; 3],
                 pending: 0,
                 padding: 0,
             },
             failed: false,
         }
+    }
+
+    /// Returns a decoder that goes on after what a text has left over.
+    pub(crate) fn resume(left_over: LeftOver, write_bytes: F) -> Self
+        requires { F.IsAlwaysCallable write_bytes }
+        ensures state { IsResumed left_over write_bytes (state_of result) }
+        ensures callable { F.IsAlwaysCallable (state_of result).closure }
+    {
+        Decoder {
+            write_bytes,
+            state: left_over,
+            failed: false,
+        }
+    }
+
+    /// Returns what the text so far has left over.
+    pub(crate) fn left_over(&self) -> LeftOver
+        ensures { HoldsLeft result (state_of self.now) }
+    {
+        self.state
     }
 
     /// Returns whether a call of `feed` returned an error. A decoder that has failed must not be fed or finished.
@@ -234,9 +255,20 @@ where
         ensures callable { F.IsAlwaysCallable result.1 }
         ensures finished { Finishes (CalledAt F.FnMut) (state_of self) result.0 result.1 }
     {
+        (self.end(), self.into_closure())
+    }
+
+    /// Ends the text as `finish` does. The decoder must not be fed or finished after that.
+    pub(crate) fn end(&mut self) -> Result<(), DecodeError<E>>
+        requires callable { F.IsAlwaysCallable (state_of self.old).closure }
+        requires going { (state_of self.old).failed ≡ false }
+        ensures callable { F.IsAlwaysCallable (state_of self.new).closure }
+        ensures finished { Finishes (CalledAt F.FnMut) (state_of self.old) result
+            (state_of self.new).closure }
+    {
         let [first, second, third] = self.state.symbols;
         let padding = usize::from(self.state.padding);
-        let answer = match self.state.pending {
+        match self.state.pending {
             1 => Err(self.refuse(InvalidBase64Details::LoneAlphabetSymbol)),
             pending if padding > 0 && pending + padding != 4 => {
                 Err(self.refuse(InvalidBase64Details::Padding))
@@ -244,7 +276,6 @@ where
             2 => self.write(&group_of(first, second, b'A', b'A')[..1]),
             3 => self.write(&group_of(first, second, third, b'A')[..2]),
             _ => Ok(()),
-        };
-        (answer, self.into_closure())
+        }
     }
 }

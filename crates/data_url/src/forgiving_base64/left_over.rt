@@ -1,6 +1,7 @@
 //! What a text of base64 leaves over for the next part (Infra Standard, forgiving-base64 decode).
 
-ghost use Rattle.std.specs.Prelude.{◌≡◌, ◌<◌, ◌≤◌, IsTrue, MatchResult, length, slice_index, take, true};
+ghost use Rattle.std.specs.Prelude.{◌≡◌, ◌<◌, ◌≤◌, IsTrue, MatchOption, MatchResult, [], false, length};
+ghost use Rattle.std.specs.Prelude.{slice_index, take, true};
 ghost use Rattle.std.specs.List.{list_all};
 ghost use Rattle.data_url.specs.Base64.{is_symbol};
 
@@ -8,9 +9,12 @@ use super::InvalidBase64Details;
 use super::alphabet::{group_of, is_symbol};
 use super::held::HeldGroups;
 
-/// What a text leaves over: the symbols after its last whole group, and how much padding it has.
-#[derive(Drop)]
-pub(super) struct State {
+/// What a text of base64 leaves over, from which decoding goes on: the symbols after its last group of four, up to
+/// three, and the number of `=` ([Infra Standard, forgiving-base64
+/// decode](https://infra.spec.whatwg.org/#forgiving-base64-decode)). It is a plain value, which may be stored and
+/// copied.
+#[derive(Clone, Copy)]
+pub struct LeftOver {
     // The symbols are the first `pending` of these.
     pub(super) symbols: [u8; 3],
     pub(super) pending: usize,
@@ -21,8 +25,57 @@ pub(super) struct State {
     ghost few_padding: { padding ≤ 3 },
 }
 
-impl State {
+impl LeftOver {
+    ghost use Rattle.data_url.specs.Parts.{HasParts, is_left_over, left_over_text};
     ghost use Rattle.data_url.specs.Steps.{Groups.{held_bytes}, Holding.{Gains, IsBetweenGroups, Refuses, left_state}};
+
+    /// Returns that nothing is left over, as at the start of a text.
+    pub fn new() -> LeftOver
+        ensures { left_over_text result ≡ [] }
+    {
+        LeftOver {
+            symbols: [0; 3],
+            pending: 0,
+            padding: 0,
+        }
+    }
+
+    /// Returns what is left over, from its parts as `into_parts` returns them. Returns None for other values: for more
+    /// than three symbols, a byte that is no symbol, and a padding above three.
+    pub fn from_parts(symbols: [u8; 3], pending: usize, padding: u8) -> Option<LeftOver>
+        ensures { MatchOption result (is_left_over symbols pending padding ≡ false)
+            (λ s. HasParts s symbols pending padding) }
+    {
+        if pending > 3 || padding > 3 {
+            return None;
+        }
+        if !symbols[..pending].iter().all(|byte| is_symbol(*byte)) {
+            return None;
+        }
+        Some(LeftOver {
+            symbols,
+            pending,
+            padding,
+        })
+    }
+
+    /// Returns the parts: the symbols left over are the first bytes of the array, and their number comes next; then the
+    /// number of `=`, where three means three or more.
+    pub fn into_parts(self) -> ([u8; 3], usize, u8)
+        ensures { HasParts self result.0 result.1 result.2 }
+    {
+        let symbols = self.symbols;
+        (symbols, self.pending, self.padding)
+    }
+
+    /// Returns how many symbols are left over, at most three.
+    #[inline(always)]
+    pub(crate) fn pending(&self) -> usize
+        ensures few { result ≤ 3 }
+        ensures pending { result ≡ self.now.pending }
+    {
+        self.pending
+    }
 
     /// Whether the next symbol begins a group.
     #[inline(always)]
@@ -32,7 +85,8 @@ impl State {
         self.pending == 0 && self.padding == 0
     }
 
-    /// Takes whole groups that a text begins with, or else one byte, and adds what is complete. Returns how many bytes it took.
+    /// Takes whole groups that a text begins with, or else one byte, and adds what is complete. Returns how many bytes
+    /// it took.
     #[inline(always)]
     pub(super) fn take_some(
         &mut self,

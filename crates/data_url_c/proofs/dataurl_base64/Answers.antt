@@ -3,5 +3,4 @@ use Rattle.data_url_c.proofs.GivenLemmas.{answers}
 use Rattle.data_url_c.proofs.dataurl_base64.Goals as goal
 
 pub returns : goal.returns
-returns c = answers (GivesBase64 c.args.text.now) c.base64.result c.base64.ensures
-    (λ kind before g. tt) c.answer.ensures
+returns c = answers (GivesBase64 c.args.text.now) c.base64.result c.base64.ensures c.answer.ensures

@@ -1,8 +1,8 @@
 use Rattle.std.proofs.Common.{Err}
 use Rattle.data_url_c.specs.Gives.{GivesBody}
 use Rattle.data_url_c.specs.declared.refusal.Refusal.TheVariants.{NotUtf8}
-use Rattle.data_url_c.proofs.GivenLemmas.{answers, body_or_memory}
+use Rattle.data_url_c.proofs.GivenLemmas.{answers}
 use Rattle.data_url_c.proofs.dataurl_body.Goals as goal
 
 pub returns-in-None : goal.returns-in-None
-returns-in-None c = answers (GivesBody c.args.url.now) (Err NotUtf8) c.in-None.ensures body_or_memory c.answer.ensures
+returns-in-None c = answers (GivesBody c.args.url.now) (Err NotUtf8) c.in-None.ensures c.answer.ensures

@@ -3,5 +3,4 @@ use Rattle.data_url_c.proofs.GivenLemmas.{answers}
 use Rattle.data_url_c.proofs.dataurl_type.Goals as goal
 
 pub returns : goal.returns
-returns c = answers (GivesType c.args.text.now) c.type_.result c.type_.ensures (λ kind before g. absurd g)
-    c.answer.ensures
+returns c = answers (GivesType c.args.text.now) c.type_.result c.type_.ensures c.answer.ensures

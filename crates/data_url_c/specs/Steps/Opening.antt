@@ -6,17 +6,17 @@ use Rattle.data_url.specs.Fetch.{tail_of}
 use Rattle.data_url.specs.Mime.{IsRecordOf, Record}
 use Rattle.data_url.specs.Url.{is_c0_control_or_space, without_end}
 use Rattle.data_url.specs.declared.DataUrl.{DataUrl}
-use Rattle.data_url_c.specs.Answers.{Shows}
+use Rattle.data_url_c.specs.Answers.{Crosses, Shows}
 use Rattle.data_url_c.specs.Gives.{RefusesUrl}
 use Rattle.data_url_c.specs.Opens.{HasNoTail, answer_of}
-use Rattle.data_url_c.specs.Steps.{CrossesOrNot, IsTypeWritten}
+use Rattle.data_url_c.specs.Steps.{IsTypeWritten}
 use Rattle.data_url_c.specs.declared.answer.DataUrlAnswer.{DataUrlAnswer}
 use Rattle.data_url_c.specs.declared.open.DataUrlOpened.{DataUrlOpened}
 use Rattle.data_url_c.specs.declared.refusal.Refusal.{Refusal}
 
 -- the result for a text that is not a data: URL
 pub record IsRefused (refusal : Refusal) (old new : List ℕ) (r : DataUrlOpened) : Type 0 where
-  pub crosses : CrossesOrNot (Err refusal) old new (answer_of r)
+  pub crosses : Crosses (Err refusal) old new (answer_of r)
   pub no_tail : HasNoTail r
 
 -- the text after a comma, without C0 controls and spaces at its end

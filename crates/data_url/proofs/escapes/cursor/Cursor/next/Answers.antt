@@ -4,4 +4,4 @@ use Rattle.data_url.proofs.escapes.cursor.Cursor.next.Goals as goal
 
 pub returns-in-Escape-clause-goes : goal.returns-in-Escape-clause-goes
 returns-in-Escape-clause-goes c =
-    let k = rw c.in-Escape.is at c.requires.ahead_is in byte_next k.0 (grind arith) refl
+    let k = rw c.in-Escape.is at c.requires.knows.ahead_is in byte_next k.0 (grind arith) refl c.requires.some

@@ -1,10 +1,12 @@
-use Rattle.std.proofs.Common.{arith, refl, ◌∙◌}
-use Rattle.data_url.proofs.escapes.Walking.{byte_part, ended_at, goes_part, looking_paid, searched, searching_percent}
+use Rattle.std.proofs.Common.{ap, arith, length, refl, ◌∙◌}
+use Rattle.data_url.proofs.escapes.{Reading.{spells_none}, Walking.{byte_part, cut_at, ended_at, goes_part}}
+use Rattle.data_url.proofs.escapes.Walking.{looking_paid, not_cut, searched, searching_part, searching_percent}
+use Rattle.data_url.proofs.escapes.Walking.{slice_cut, slice_goes}
 use Rattle.data_url.proofs.escapes.cursor.Cursor.next_stretch.Goals as goal
 
-pub loop-from-preserved-in-Stays : goal.loop-from-preserved-in-Stays
-loop-from-preserved-in-Stays c =
-    let i = c.loop-from.invariant in
+pub loop-self-preserved-in-Stays : goal.loop-self-preserved-in-Stays
+loop-self-preserved-in-Stays c =
+    let i = c.loop-self.invariant in
     let m = c.next_mark-mark.ensures in
     let found = c.in-Stays.ensures.found in
     let looking = looking_paid {s' = c.at_mark.new.self} m.looking c.at_mark.ensures.text found.2 in
@@ -23,7 +25,45 @@ returns-in-End-clause-knows c =
 
 pub returns-in-Escape-clause-goes : goal.returns-in-Escape-clause-goes
 returns-in-Escape-clause-goes c =
-    let i = c.loop-from.invariant in
+    let i = c.loop-self.invariant in
     let m = c.next_mark-mark.ensures in
     let q = rw (m.on.text_stays ∙ i.on.text_stays) at c.in-Escape.ensures.found.1 in
-    goes_part refl (byte_part i.search.passed (rw c.if-mark-place.true at q)) (grind arith) refl
+    goes_part refl (byte_part i.search.passed (rw c.if-mark-place.true at q)) (grind arith) refl c.requires.some
+
+pub returns-then-end-mark-clause-goes : goal.returns-then-end-mark-clause-goes
+returns-then-end-mark-clause-goes c =
+    let i = c.loop-self.invariant in
+    let m = c.next_mark-mark.ensures in
+    let at = cut_at c.saturating_add-end.result c.next_mark-mark.result c.len.result c.if-end-mark.true in
+    let cut = searching_part i.search (rw i.on.text_stays at m.mark) (omega (arith, at)) (omega (arith, at)) in
+    slice_cut refl cut (omega (arith, at)) (omega (arith, at, m.mark.within)) (grind arith) (grind arith) refl
+
+pub returns-then-place-mark-clause-goes : goal.returns-then-place-mark-clause-goes
+returns-then-place-mark-clause-goes c =
+    let i = c.loop-self.invariant in
+    let m = c.next_mark-mark.ensures in
+    let found = c.in-Passed.ensures.found in
+    let few = not_cut c.loop-self.self.place c.args.most _ c.next_mark-mark.result c.len.result
+    c.saturating_add-end.ensures c.if-end-mark.false (omega (arith, m.mark.within, ap length m.on.text_stays)) in
+    slice_goes (m.on.text_stays ∙ i.on.text_stays) (searched i.on m.on i.search m.mark) c.if-place-mark.true few found.0
+    found.1 c.cut-slice.ensures (grind arith) refl
+
+pub returns-in-Escape-2-clause-goes : goal.returns-in-Escape-2-clause-goes
+returns-in-Escape-2-clause-goes c =
+    let i = c.loop-self.invariant in
+    let m = c.next_mark-mark.ensures in
+    let found = c.in-Escape.ensures.found in
+    let few = not_cut c.loop-self.self.place c.args.most _ c.next_mark-mark.result c.len.result
+    c.saturating_add-end.ensures c.if-end-mark.false (omega (arith, m.mark.within, ap length m.on.text_stays)) in
+    slice_goes (m.on.text_stays ∙ i.on.text_stays) (searched i.on m.on i.search m.mark) (omega arith) few found.0
+    (grind (arith, spells_none)) c.cut-slice.ensures (grind arith) refl
+
+pub returns-in-End-clause-goes : goal.returns-in-End-clause-goes
+returns-in-End-clause-goes c =
+    let i = c.loop-self.invariant in
+    let m = c.next_mark-mark.ensures in
+    let found = c.in-End.ensures.found in
+    let few = not_cut c.loop-self.self.place c.args.most _ c.next_mark-mark.result c.len.result
+    c.saturating_add-end.ensures c.if-end-mark.false (omega (arith, m.mark.within, ap length m.on.text_stays)) in
+    slice_goes (m.on.text_stays ∙ i.on.text_stays) (searched i.on m.on i.search m.mark) (omega arith) few found.0
+    (grind (arith, spells_none)) c.cut-slice.ensures (grind arith) refl

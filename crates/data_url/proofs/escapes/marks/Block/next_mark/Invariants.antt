@@ -6,6 +6,7 @@ use Rattle.data_url.proofs.escapes.marks.Block.next_mark.Given as goal
 abbrev pub invariant-loop-place : goal.invariant-loop-place
 invariant-loop-place l = record {
   looking : Looking l.source l.self l.place 0;
+  at_end : l.from ≤ l.end → l.end ≤ l.place → Looking l.source l.self l.end 0;
   on : LooksOn l.fn.source l.source;
   unseen : l.self.seen ≤ l.place;
   forward : l.from ≤ l.place;

@@ -1,0 +1,176 @@
+-- What a call for the next part of a body leaves. For the functions that write bodies to outputs.
+use Rattle.std.proofs.Common.{Bool, Err, List, None, Ok, Option, Result, Some, [], ap, append-nil, append_assoc}
+use Rattle.std.proofs.Common.{arith, drop}
+use Rattle.std.proofs.Common.{drop-drop, false, inl, inr, length, length-drop, length-take, refl, subst, sym, take}
+use Rattle.std.proofs.Common.{true, ◌*◌, ◌+◌, ◌++◌, ◌<◌}
+use Rattle.std.proofs.Common.{MatchOption, ◌∙◌, ◌≡◌, ◌≢◌, ◌≤◌, ℕ}
+use Rattle.std.proofs.{lemmas.Bool.{cases_lt}, lemmas.List.{drop_all}}
+use Rattle.std.specs.declared.convert.Infallible.{Infallible}
+use Rattle.data_url.specs.Base64.{Kind}
+use Rattle.data_url.specs.Fetch.{Bad, Good, Outcome, outcome, plain_body}
+use Rattle.data_url.specs.Parts.{EndsAt, MovesOn, WritesFront, body_after, left_over_text, prepend, rest_of}
+use Rattle.data_url.specs.Run.{IsRun, joined_pieces, refusal}
+use Rattle.data_url.specs.Decoder.{State, left_over}
+use Rattle.data_url.specs.Steps.Parts.{DecodesPartOf, DecodesWithin, HoldsLeft, IsResumed, LeavesAt, LeavesPart, Rests}
+use Rattle.data_url.specs.Steps.Parts.{StopsAt, WritesWithin}
+use Rattle.data_url.specs.Steps.Tail.{IsBodyEnd, rest_fragment}
+use Rattle.data_url.specs.Url.{after, number_sign}
+use Rattle.data_url.specs.declared.body.Stop.TheVariants.{Ended, Paused}
+use Rattle.data_url.specs.declared.body.Stop.{Stop}
+use Rattle.data_url.specs.declared.forgiving_base64.DecodeError.TheVariants.{InvalidBase64, WriteError}
+use Rattle.data_url.specs.declared.forgiving_base64.DecodeError.{DecodeError}
+use Rattle.data_url.specs.declared.forgiving_base64.left_over.LeftOver.{LeftOver}
+use Rattle.data_url.specs.declared.parts.body.Body.{Body}
+use Rattle.data_url.proofs.escapes.Walking.{hash_at}
+use Rattle.data_url.proofs.{parts.Outputs.{Passes, no_refusal, passes_of}, runs.Runs.{match_at_none, match_map}}
+
+-- More bytes before an outcome
+
+-- none
+prepend_nil : (o : Outcome) → o ≡ prepend [] o
+prepend_nil (Good bytes) = refl
+prepend_nil (Bad bytes kind) = refl
+
+-- some, and more before these
+pub prepend_more : (front bytes : List ℕ) (o : Outcome) → prepend front (prepend bytes o) ≡ prepend (front ++ bytes) o
+prepend_more front bytes (Good rest) = cc (append_assoc front bytes rest)
+prepend_more front bytes (Bad rest kind) = cc (append_assoc front bytes rest)
+
+-- A body that is not base64
+
+-- its last bytes
+pub plain_good : (s : LeftOver) (tail : List ℕ) {bytes rest : List ℕ} → left_over_text s ≡ []
+    → plain_body tail ≡ bytes ++ rest → rest ≡ [] → body_after false s tail ≡ Good bytes
+unfolding outcome
+plain_good s tail {bytes} {rest} none e over = cc (e, none, over, append-nil bytes)
+
+-- some of its bytes
+pub plain_goes : (s : LeftOver) (tail bytes : List ℕ) (place : ℕ) → left_over_text s ≡ []
+    → plain_body tail ≡ bytes ++ plain_body (drop place tail)
+    → body_after false s tail ≡ prepend bytes (body_after false s (drop place tail))
+unfolding outcome
+plain_goes s tail bytes place none e = cc (e, none)
+
+-- A body of base64
+
+-- an output that is too small
+pub writes_nothing : (s : LeftOver) (tail out : List ℕ) → length out < 4
+    → WritesWithin true s tail out out 0 s (Ok (Paused 0))
+writes_nothing s tail out small = record {
+  bytes = [];
+  wrote = record { within = omega arith; bytes_are = refl; rest_stays = refl };
+  stops = record {
+    within = omega arith;
+    goes = λ l. absurd (omega arith);
+    after_is = refl;
+    rest_is = prepend_nil (body_after true s tail);
+    plain = λ e. absurd (cc);
+  };
+}
+
+-- a decoder that holds what is left over has its text
+held_text : {F : Type 0} {s : LeftOver} {d : State F} → HoldsLeft s d → left_over d ≡ left_over_text s
+held_text {F} {s} {d} h = cc (h.symbols_are, h.padding_is)
+
+-- where a decoder stopped, in terms of what was left over, and is
+leaves_part : {F E : Type 0} (s s' : LeftOver) (d d' : State F) (tail : List ℕ) (most : ℕ) (bytes : List ℕ)
+    (r : Result Stop (DecodeError E)) → left_over d ≡ left_over_text s → left_over d' ≡ left_over_text s'
+    → StopsAt d tail most bytes r d' → LeavesPart s tail most bytes s' r
+leaves_part s s' d d' tail most bytes (Ok (Paused place)) e e' k = record {
+  within = k.within;
+  goes = k.goes;
+  after_is = k.after_is;
+  rest_is = rw (e, e') at k.rest_is;
+  plain = λ e. absurd (cc);
+}
+leaves_part s s' d d' tail most bytes (Ok (Ended place)) e e' k = (rw e at k.0, k.1)
+leaves_part s s' d d' tail most bytes (Err (InvalidBase64 kind)) e e' k = rw e at k
+leaves_part s s' d d' tail most bytes (Err (WriteError x)) e e' k = k
+
+-- a decoder that goes on after what is left over decodes a body
+pub decodes_part : {F E : Type 0} {step : F → List ℕ → Result (Unit {0}) E → F → Type 0} {f : F} {d d' : State F}
+    {s s' : LeftOver} {tail : List ℕ} {most : ℕ} {r : Result Stop (DecodeError E)} → IsResumed s f d
+    → DecodesWithin step d tail most r d' → HoldsLeft s' d' → DecodesPartOf step f s tail most s' r d'.closure
+decodes_part {step = step} {d = d} {d' = d'} {s = s} {s' = s'} {tail = tail} {most = most} {r = r} h k left =
+    let size : length d.symbols ≤ s.pending = omega (
+      arith,
+      ap length h.holds.symbols_are,
+      length-take s.pending
+          s.symbols,
+    ) in
+    record {
+      run = k.run;
+      ran = subst (λ x. IsRun step x k.run d'.closure) h.closure_is k.ran;
+      gave = match_map (refusal k.run) _ _ _ _
+          (λ t. (
+            omega (arith, t.0, size),
+            leaves_part s s' d d' tail most (joined_pieces k.run) r (held_text h.holds) (held_text left) t.1,
+          ))
+          (λ e t. t.answer)
+          k.gave;
+    }
+
+module _ {F : Type 0} {step : F → List ℕ → Result (Unit {0}) Infallible → F → Type 0} {f g : F} {s s' : LeftOver}
+    {tail : List ℕ} {most : ℕ} {r : Result Stop (DecodeError Infallible)} where
+  -- a closure that cannot fail was called with some bytes
+  pub part_passed : (d : DecodesPartOf step f s tail most s' r g) → Passes step f (joined_pieces d.run) g
+  part_passed d = passes_of d.run d.ran (no_refusal (refusal d.run))
+
+  -- these are not more than can be decoded, and decoding stopped after them
+  pub part_gave : (d : DecodesPartOf step f s tail most s' r g)
+      → (4 * length (joined_pieces d.run) ≤ 3 * (s.pending + most)) × LeavesPart s tail most (joined_pieces d.run) s' r
+  part_gave d = match_at_none _ _ _ (no_refusal (refusal d.run)) d.gave
+
+-- an output of four bytes is enough to go on
+pub leaves_at : (s s' : LeftOver) (tail : List ℕ) (most : ℕ) (Could : Type 0) (bytes : List ℕ) (stop : Stop)
+    → (Could → 1 ≤ most) → LeavesAt true s tail (1 ≤ most) bytes s' (Ok stop)
+    → LeavesAt true s tail Could bytes s' (Ok stop)
+leaves_at s s' tail most Could bytes (Paused place) some k = record {
+  within = k.within;
+  goes = λ l. k.goes (some l);
+  after_is = k.after_is;
+  rest_is = k.rest_is;
+  plain = k.plain;
+}
+leaves_at s s' tail most Could bytes (Ended place) some k = k
+
+-- Bodies
+
+-- a body goes on at a place in the rest of its tail
+pub moves_on : {b c : Body} {room place : ℕ} {bytes : List ℕ} {s : LeftOver}
+    → Rests b.base64 b.left_over (drop b.place b.tail.now) (4 ≤ room) bytes place s → c.tail.now ≡ b.tail.now
+    → c.base64 ≡ b.base64 → c.place ≡ b.place + place → c.left_over ≡ s → MovesOn b room bytes c
+moves_on {b} {c} {room} {place} {bytes} {s} h tail flag at left =
+    let rest : drop place (drop b.place b.tail.now) ≡ drop c.place c.tail.now =
+    drop-drop place b.place b.tail.now ∙ cc (tail, at) in
+    record {
+      tail_stays = tail;
+      base64_stays = flag;
+      forward = λ l. omega (arith, h.goes l);
+      rest_is = cc (h.rest_is, rest, flag, left);
+      fragment_is = h.after_is ∙ ap (after number_sign) rest;
+    }
+
+-- a body ends at a place in the rest of its tail
+pub ends_at : (b : Body) (place : ℕ) → IsBodyEnd (drop b.place b.tail.now) place → EndsAt b (b.place + place)
+ends_at b place h = elim (cases_lt place (length (drop b.place b.tail.now))) [
+  | inl l ↦
+      let hash = hash_at h (λ e. absurd (omega arith)) in
+      record {
+        forward = omega arith;
+        fragment_is = rw hash.2 (omega (arith, length-drop b.place b.tail.now), grind (arith, drop-drop));
+      }
+  | inr l ↦
+      let none : after number_sign (drop b.place b.tail.now) ≡ None =
+      h.after_is ∙ ap rest_fragment (drop_all place (drop b.place b.tail.now) l) in
+      record {
+        forward = omega arith;
+        fragment_is = rw none (omega (arith, b.within, h.within, length-drop b.place b.tail.now));
+      }
+]
+
+-- what is known where decoding ended
+pub stops_ended : (flag : Bool) (s s' : LeftOver) {tail rest : List ℕ} (Could : Type 0) {bytes : List ℕ}
+    {r : Result Stop Kind} {place : ℕ} → LeavesAt flag s tail Could bytes s' r → r ≡ Ok (Ended place) → tail ≡ rest
+    → (body_after flag s rest ≡ Good bytes) × IsBodyEnd rest place
+stops_ended flag s s' Could h e same = rw (e, same) at h
