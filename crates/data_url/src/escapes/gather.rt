@@ -11,6 +11,7 @@ use super::cursor::{Ahead, Cursor, ESCAPE};
 use super::marks::AtMark;
 use super::pack::SEVERAL;
 use crate::classes::lanes::BLOCK;
+use std::mem::replace;
 
 /// How many bytes the buffer holds in which short stretches and values of escapes are gathered.
 pub(crate) const BUFFER_LEN: usize = 512;
@@ -48,8 +49,9 @@ impl<'a> Cursor<'a> {
         }
     }
 
-    /// Does what `gather` does, if at most a number of bytes can be gathered, and otherwise nothing.
-    #[inline(always)]
+    /// Does what `gather` does, if at most a number of bytes can be gathered, and otherwise nothing. The cursor is moved out and
+    /// back, so that it can stay in registers.
+    #[inline(never)]
     fn gather_within(&mut self, room: &mut Buffer, most: usize) -> usize
         requires { Knows self.old }
         ensures gathers { Gathers self.old self.new room.old room.new 0 result }
@@ -59,7 +61,10 @@ impl<'a> Cursor<'a> {
         if most < BUFFER_LEN && most < self.source.len().saturating_sub(self.place) {
             return 0;
         }
-        self.gather(room)
+        let mut cursor = replace(self, Cursor::new(&[]));
+        let len = cursor.gather(room);
+        *self = cursor;
+        len
     }
 
     /// Gathers the next short stretches and the values of escapes in a buffer, until it is full, the body ends or a long stretch

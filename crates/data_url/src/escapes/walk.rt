@@ -7,7 +7,6 @@ ghost use Rattle.data_url.specs.Steps.{Chunks.{GivesBytes, IsBodyFrom, IsBodyPre
 use super::cursor::{Ahead, Cursor};
 use super::gather::BUFFER_LEN;
 use std::marker::Model;
-use std::mem::replace;
 
 /// A walk. Contracts see the text, the place in it in bytes, and the rest of the body.
 #[derive(Drop)]
@@ -48,8 +47,7 @@ impl<'a> Walk<'a> {
     }
 
     /// Returns the next bytes, at most a number of them, or None if the body has ended: a long stretch of the text as it is, or
-    /// shorter ones and the values of escapes, gathered in a buffer. The cursor is moved out and back, so that it can stay in
-    /// registers.
+    /// shorter ones and the values of escapes, gathered in a buffer.
     pub(crate) fn next_bytes<'r>(
         &mut self,
         room: &'r mut [u8; BUFFER_LEN],
@@ -61,10 +59,7 @@ impl<'a> Walk<'a> {
         ensures gives { GivesBytes self.old result self.new }
         ensures few { IfSome result (λ bytes. length bytes.now ≤ most) }
     {
-        let mut cursor = replace(&mut self.cursor, Cursor::new(&[]));
-        let bytes = cursor.next_bytes(room, most);
-        self.cursor = cursor;
-        bytes
+        self.cursor.next_bytes(room, most)
     }
 
     /// Returns whether the walk is known to be at the end of the body.
