@@ -1,9 +1,9 @@
 -- Bodies and base64 in parts: what a call writes to its output, and what it leaves for the next call.
 use Rattle.std.specs.List.{list_all}
-use Rattle.std.specs.Prelude.{◌<◌, ◌==◌, ◌||◌}
+use Rattle.std.specs.Prelude.{◌%◌, ◌<◌, ◌==◌, ◌||◌}
 use Rattle.std.specs.Prelude.{◌&&◌, ◌*◌, ◌+◌, ◌++◌, ◌-◌, ◌/◌, ◌≡◌, ◌≤◌, Bool, Err, List, MatchBool, MatchOption, Ok}
 use Rattle.std.specs.Prelude.{Result}
-use Rattle.std.specs.Prelude.{drop, length, min, nat_le, take, true, ℕ}
+use Rattle.std.specs.Prelude.{drop, length, nat_le, take, true, ℕ}
 use Rattle.data_url.specs.Base64.{Kind, complete_bytes, decoded, first_fault, is_symbol, is_valid, kind_of}
 use Rattle.data_url.specs.Base64.{left_padding}
 use Rattle.data_url.specs.Base64.{left_symbols, left_text}
@@ -45,10 +45,12 @@ pub record HasParts (s : LeftOver) (symbols : List ℕ) (pending padding : ℕ) 
   pub padding_is : s.padding ≡ padding
   pub good : is_left_over symbols pending padding ≡ true
 
--- how many bytes of a text are fed at most after what is left over: so many that the bytes of their
--- groups fit the output
-abbrev pub fitting_len : LeftOver → ℕ → ℕ
-fitting_len s room = room / 3 * 4 + 3 - s.pending
+-- how many bytes of a text are decoded into an output after symbols that are left over: all, if the bytes of their
+-- groups surely fit, with those that end the text. Otherwise so many that, if all are symbols, the
+-- last ends a group.
+abbrev pub IsFitting : ℕ → ℕ → ℕ → ℕ → Type 0
+IsFitting pending len room read =
+    MatchBool (nat_le (pending + len) (room / 3 * 4 + room % 3 + 1)) (read ≡ len) (read ≡ room / 3 * 4 - pending)
 
 -- what the text u leaves over; or the kind of its first fault
 abbrev pub IsFed : List ℕ → Result LeftOver Kind → Type 0
@@ -57,7 +59,7 @@ IsFed u r = MatchOption (first_fault u) ((s : LeftOver) × (r ≡ Ok s) × IsLef
 
 -- feeding a part of a text: what is read of it follows what is left over
 pub record FeedsPart (s : LeftOver) (input before after : List ℕ) (r : Fed) : Type 0 where
-  pub read_is : r.read ≡ min (length input) (fitting_len s (length before))
+  pub read_is : IsFitting s.pending (length input) (length before) r.read
   pub wrote : WritesFront (complete_bytes (left_over_text s ++ take r.read input)) before after r.len
   pub fed : IsFed (left_over_text s ++ take r.read input) r.left_over
 

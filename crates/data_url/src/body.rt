@@ -1,8 +1,8 @@
 //! Bodies: a closure is called with their bytes, piece by piece.
 
 ghost use Rattle.std.specs.{Prelude.{◌+◌, ◌≡◌, ◌≤◌, false, length, true}, Fn.{CalledAt}};
-ghost use Rattle.data_url.specs.Steps.{Chunks.{IsBodyPrefix, IsCallableUntilError, TakesRest, TakesWithin}, Holding.{FeedsUnescaped}, Tail.{IsBodyEnd}};
-ghost use Rattle.data_url.specs.{Fetch.{outcome, plain_body}, DataUrl.{Decodes}, Steps.Whole.{IsBodyInVec}};
+ghost use Rattle.data_url.specs.Steps.{Chunks.{IsBodyPrefix, IsCallableUntilError, TakesWithin}, Holding.{FeedsUnescaped}, Tail.{IsBodyEnd}};
+ghost use Rattle.data_url.specs.{Fetch.{outcome, plain_body}, DataUrl.{Decodes}, Pieces.{walk_at_start}, Steps.Whole.{IsBodyInVec}};
 ghost use Rattle.data_url.specs.{Decoder.{state_of}, Steps.Parts.{DecodesPartOf, DecodesWithin}};
 
 use crate::escapes::{BUFFER_LEN, Walk};
@@ -47,17 +47,25 @@ where
     Ok(())
 }
 
-/// Calls a closure with the rest of a body. Returns the place in the text where the body ends, or the closure's error.
-fn take_rest<F, E>(mut walk: Walk<'_>, take: &mut F) -> Result<usize, E>
+/// Calls a closure with the prefix of a body and with the bytes after it, at most a number of these, as `take_within` does. Returns
+/// the closure's error.
+pub(crate) fn take_after<F, E>(
+    prefix: &[u8],
+    walk: &mut Walk<'_>,
+    most: usize,
+    take: &mut F,
+) -> Result<(), E>
 where
     F: FnMut(&[u8]) -> Result<(), E>,
     requires callable { IsCallableUntilError F.FnMut take.old }
-    requires short { walk.place + length walk.rest ≤ length walk.text }
-    ensures { TakesRest (CalledAt F.FnMut) take.old walk.entry result take.new }
+    requires prefix { IsBodyPrefix walk.old.text prefix.now walk.old }
+    ensures { TakesWithin (CalledAt F.FnMut) take.old (walk_at_start walk.old.text)
+        (length prefix.now + most) result take.new walk.new }
 {
-    let most = walk.rest_len();
-    take_within(&mut walk, most, take)?;
-    Ok(walk.end())
+    if !prefix.is_empty() {
+        take(prefix)?;
+    }
+    take_within(walk, most, take)
 }
 
 /// Decodes a tail up to its first `#` or `%`, in parts of at most 4 KiB, the most that `feed_unescaped` accepts. So the decoder cannot
@@ -161,7 +169,7 @@ where
 /// Calls a closure with a body that is not base64: its prefix, and the pieces after it. Returns the place where the body ends.
 pub(crate) fn decode_plain<F, E>(
     prefix: &[u8],
-    walk: Walk<'_>,
+    mut walk: Walk<'_>,
     mut write: F,
 ) -> (Result<usize, DecodeError<E>>, F)
 where
@@ -172,20 +180,18 @@ where
         (outcome false (plain_body walk.entry.text)) (IsBodyEnd walk.entry.text)
         result.0 result.1 }
 {
-    if !prefix.is_empty() {
-        if let Err(error) = write(prefix) {
-            return (Err(DecodeError::WriteError(error)), write);
-        }
+    let most = walk.rest_len();
+    match take_after(prefix, &mut walk, most, &mut write) {
+        Ok(()) => (Ok(walk.end()), write),
+        Err(error) => (Err(DecodeError::WriteError(error)), write),
     }
-    let place = take_rest(walk, &mut write);
-    (place.map_err(DecodeError::WriteError), write)
 }
 
 /// Returns a body that is not base64 in a vector, and the place in the text where it ends.
 pub(crate) fn plain_to_vec(alloc: Global, tail: &[u8]) -> Result<(Vec<u8>, usize), DecodeToVecError>
     ensures { IsBodyInVec false tail.now result }
 {
-    let (prefix, walk) = Walk::after_prefix(tail);
+    let (prefix, walk) = Walk::after_prefix(tail, tail.len());
     let mut room = prefix.len();
     if room < tail.len() && tail[room] != b'#' {
         room = room.max(tail.len().min(FIRST_ROOM));
@@ -204,8 +210,7 @@ pub(crate) fn plain_to_vec(alloc: Global, tail: &[u8]) -> Result<(Vec<u8>, usize
 
 /// Returns how many symbols room is allocated for first: for all of the tail if it is short, or if its first bytes are symbols.
 fn first_len(tail: &[u8]) -> usize {
-    let probed = tail.get(..PROBED).unwrap_or(&[]);
-    if tail.len() <= FIRST_ROOM || Walk::after_prefix(probed).0.len() == PROBED {
+    if tail.len() <= FIRST_ROOM || Walk::after_prefix(tail, PROBED).0.len() == PROBED {
         return tail.len();
     }
     FIRST_ROOM
@@ -216,7 +221,7 @@ fn shrink(tail: &[u8], body: &mut Vec<u8>, place: usize)
     ensures { body.new.items ≡ body.old.items }
 {
     let is_large = body.capacity() / 2 > body.len().max(PROBED);
-    if place < tail.len() && (is_large || Walk::after_prefix(tail).0.len() == place) {
+    if place < tail.len() && (is_large || Walk::after_prefix(tail, tail.len()).0.len() == place) {
         body.shrink_to(room_for(place));
     }
 }

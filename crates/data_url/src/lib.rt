@@ -135,7 +135,7 @@ impl<'a> DataUrl<'a> {
         let (answer, write) = if self.base64 {
             decode_base64(tail, write_body_bytes)
         } else {
-            let (prefix, walk) = Walk::after_prefix(tail);
+            let (prefix, walk) = Walk::after_prefix(tail, tail.len());
             decode_plain(prefix, walk, write_body_bytes)
         };
         match answer {

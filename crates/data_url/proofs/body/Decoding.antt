@@ -1,21 +1,21 @@
--- A closure or a decoder that gets a body piece by piece. For `take_rest`,
--- `decode_base64`, `decode_plain` and their callers.
-use Rattle.std.proofs.Common.{Result, Ok, Err, refl, sym, ap, ◌∙◌, append_assoc, arith, length-append, Bool, MatchBool}
-use Rattle.std.proofs.Common.{Some, false, cond, length-drop, length-take, MatchOption, MatchResult, true, append-nil}
+-- A closure or a decoder that gets a body piece by piece. For `take_within`, `take_after`, `decode_base64`,
+-- `decode_plain` and their callers.
+use Rattle.std.proofs.Common.{Result, Ok, Err, refl, sym, ap, ◌∙◌, append_assoc, arith, length-append, Bool}
+use Rattle.std.proofs.Common.{Some, false, cond, length-drop, length-take, MatchOption, true, append-nil}
 use Rattle.std.proofs.Common.{◌≡◌, ℕ, ◌+◌, ◌≤◌, List, [], ◌∷◌, ◌++◌, Bor, length, Option, None, drop, take, inl, inr}
 use Rattle.std.proofs.Common.{max, ◌⊎◌}
 use Rattle.std.proofs.Common.{◌==◌, not, length-take-le, take-append-drop, take-take, take-add, ◌-◌, ◌<◌, ◌&&◌, ap₂}
-use Rattle.std.{proofs.Common.{get_or, get_or-take, get_or-drop, subst}, proofs.lemmas.Bool.{and_parts, cases_Bool}}
+use Rattle.std.{proofs.Common.{get_or, get_or-take, get_or-drop, subst}, proofs.lemmas.Bool.{and_parts, cases_Bool, cases_lt}}
 use Rattle.std.{proofs.lemmas.List.{length-map}, proofs.lemmas.List.Folds.{list_all-append}}
 use Rattle.std.{specs.Char.{is_ascii_whitespace}, specs.Fn.{CalledAt, Mut, always_mut}, specs.List.{list_all}}
-use Rattle.data_url.specs.Base64.{decoded, complete_bytes, kind_of, after_groups, groups, rest_bytes, values}
+use Rattle.data_url.specs.Base64.{decoded, complete_bytes, after_groups, groups, rest_bytes, values}
 use Rattle.data_url.specs.{Base64.{without_whitespace}, DataUrl.{Decodes, HandsOut, IsUrlOf, url_body, url_tail}}
-use Rattle.data_url.specs.{Decoder.{Feeds, Finishes, State, start}, Errors.{IsRefused}, Fetch.{Good, outcome_bytes}}
-use Rattle.data_url.specs.{Fetch.{plain_body, Bad, outcome, Outcome, tail_of}, Pieces.{Walk}, Run.{Call, IsRun}}
-use Rattle.data_url.specs.{Run.{joined_pieces, refusal, IsPrefix}, Steps.Chunks.{IsBodyFrom, IsBodyPrefix}}
-use Rattle.data_url.specs.{Steps.Chunks.{IsCallableUntilError, IsOver, Takes, TakesOn, TakesPart, TakesRest}}
-use Rattle.data_url.specs.{Steps.Chunks.{TakesUntil}, Steps.Digits.{cleaned}}
-use Rattle.data_url.specs.{Steps.Holding.{FeedsFront}, Steps.Tail.{IsBodyEnd}, Steps.Whole.{DecodesText}}
+use Rattle.data_url.specs.{Decoder.{Feeds, State, start}, Errors.{IsRefused}, Fetch.{Good, outcome_bytes}}
+use Rattle.data_url.specs.{Fetch.{plain_body, Bad, outcome, Outcome, tail_of}, Pieces.{Walk, walk_at_start}, Run.{Call}}
+use Rattle.data_url.specs.{Run.{joined_pieces, refusal, IsPrefix}, Steps.Chunks.{IsBodyPrefix}}
+use Rattle.data_url.specs.{Steps.Chunks.{IsCallableUntilError, IsOver, Takes, TakesOn, TakesPart}}
+use Rattle.data_url.specs.{Steps.Chunks.{TakesUntil, TakesWithin}, Steps.Digits.{cleaned}}
+use Rattle.data_url.specs.{Steps.Holding.{FeedsFront}, Steps.Tail.{IsBodyEnd}}
 use Rattle.data_url.specs.{Steps.Window.{is_plain}, Url.{is_tab_or_newline, number_sign, after, trimmed_text}}
 use Rattle.data_url.specs.{declared.DataUrl.{DataUrl}, declared.forgiving_base64.DecodeError.{DecodeError}}
 use Rattle.data_url.specs.declared.forgiving_base64.DecodeError.TheVariants.{WriteError, InvalidBase64}
@@ -23,8 +23,8 @@ use Rattle.data_url.proofs.escapes.EscapeDigits.{begins_other, cleaned_keeps, cl
 use Rattle.data_url.proofs.{escapes.Reading.{decoded_byte, plain_is}, forgiving_base64.Groups.{groups_length}}
 use Rattle.data_url.proofs.{forgiving_base64.Groups.{filter_length}, forgiving_base64.Padding.{decoded_alike}}
 use Rattle.data_url.proofs.forgiving_base64.Padding.{done_alike, kind_alike, valid_alike}
-use Rattle.data_url.proofs.forgiving_base64.Steps.{feeds_err, feeds_then}
-use Rattle.data_url.proofs.{forgiving_base64.WholeTexts.{decodes_finished, decodes_refused}, runs.Runs.{run-append}}
+use Rattle.data_url.proofs.forgiving_base64.Steps.{feeds_then}
+use Rattle.data_url.proofs.{runs.Runs.{run-append}}
 use Rattle.data_url.proofs.runs.Runs.{run_ends, run_keeps, run_preserves, prefix_after, joined_pieces-append, match_at}
 use Rattle.data_url.proofs.{runs.Runs.{refusal-append}, texts.Bytes.{after_other, is_cut}}
 use denote.Param.Always.{mut_next}
@@ -168,18 +168,66 @@ module _ {F E : Type 0} (step : F → List ℕ → Result (Unit {0}) E → F →
     all = λ whole. absurd (omega (arith, so.all whole, ap length so.takes.text_stays));
   }
 
--- a closure that took the next bytes of a walk, up to the end of the body, took the rest
-pub rest_taken : {F E : Type 0} {step : F → List ℕ → Result (Unit {0}) E → F → Type 0} {f g : F} {w w' : Walk}
-    {most place : ℕ} → TakesPart step f w most g w' → w'.rest ≡ [] → IsBodyEnd w'.text place
-    → TakesRest step f w (Ok place) g
-rest_taken {w = w} {w' = w'} part over end =
-    let t = part.takes in
-    record {
-      run = t.run;
-      ran = t.ran;
-      calls = omega (arith, t.calls, t.within, ap length t.text_stays);
-      gave = (rw t.text_stays at end, t.accepted, cc (t.body, over, append-nil (joined_pieces t.run)));
-    }
+module _ {F E : Type 0} (step : F → List ℕ → Result (Unit {0}) E → F → Type 0) where
+  -- after some calls, the closure was called with more bytes of the walk
+  takes_then : {f g h : F} {w0 w w' : Walk} {most left : ℕ} → TakesSoFar step f w0 most left g w
+      → TakesPart step g w left h w' → TakesPart step f w0 most h w'
+  takes_then {f} {g} {h} {w0} {w} {w'} {most} {left} so t =
+      let a = so.takes in
+      let b = t.takes in
+      let joined = joined_pieces-append a.run b.run in
+      record {
+        takes = record {
+          run = a.run ++ b.run;
+          ran = run-append step a.run b.run f g h a.ran a.accepted b.ran;
+          accepted = refusal-append a.run b.run a.accepted ∙ b.accepted;
+          text_stays = b.text_stays ∙ a.text_stays;
+          calls = omega (arith, a.calls, b.calls, length-append a.run b.run);
+          within = b.within;
+          short = b.short;
+          body = cc (a.body, b.body, joined, append_assoc (joined_pieces a.run) (joined_pieces b.run) w'.rest);
+        };
+        few = omega (
+          arith,
+          so.few,
+          t.few,
+          ap length joined,
+          length-append (joined_pieces a.run) (joined_pieces b.run),
+        );
+        goes = λ l n. elim (cases_lt 0 left) [
+          | inl some ↦ omega (arith, a.calls, t.goes some n)
+          | inr none ↦ omega (arith, so.goes (omega arith), b.calls)
+        ];
+        all = λ l. t.all (omega (arith, so.all l, ap length a.text_stays));
+      }
+
+  -- after some calls, the closure returned an error for more bytes of the walk
+  takes_then_refused : {f g h : F} {w0 w : Walk} {most left : ℕ} {e : E} → TakesSoFar step f w0 most left g w
+      → TakesUntil step g w left e h → TakesUntil step f w0 most e h
+  takes_then_refused {f} {g} {h} {w0} {w} {e = e} so t =
+      let a = so.takes in
+      let joined = joined_pieces-append a.run t.run in
+      let p = prefix_after (joined_pieces a.run) (joined_pieces t.run) w.rest t.begins in
+      record {
+        run = a.run ++ t.run;
+        ran = run-append step a.run t.run f g h a.ran a.accepted t.ran;
+        calls = omega (arith, a.calls, t.calls, length-append a.run t.run, ap length a.text_stays);
+        few = omega (
+          arith,
+          so.few,
+          t.few,
+          ap length joined,
+          length-append (joined_pieces a.run) (joined_pieces t.run),
+        );
+        refused = refusal-append a.run t.run a.accepted ∙ t.refused;
+        begins = (p.0, cc (joined, a.body, p.1));
+      }
+
+  -- after some calls, the closure was called with more bytes of the walk, or returned an error
+  pub takes_on : {f g : F} {w0 w : Walk} {most left : ℕ} (r : Result (Unit {0}) E) (h : F) (w' : Walk)
+      → TakesSoFar step f w0 most left g w → TakesWithin step g w left r h w' → TakesWithin step f w0 most r h w'
+  takes_on (Ok u) h w' so t = takes_then so t
+  takes_on (Err e) h w' so t = takes_then_refused so t
 
 -- the next bytes of a walk are not more than what may be taken, if that is not nothing, or the rest
 -- of the text is not more
@@ -187,13 +235,6 @@ pub next_fits : {w w' : Walk} {bytes : List ℕ} {left most : ℕ} → Takes w b
     → length bytes ≤ most → (1 ≤ left) ⊎ (length w.text - w.place ≤ left) → length bytes ≤ left
 next_fits t e few (inl l) = omega arith
 next_fits t e few (inr l) = omega (arith, t.place, t.within, t.some, ap length t.text_stays)
-
--- what each call that succeeds preserves is true after a closure took the rest of a body
-pub rest_preserves : {F E : Type 0} {step : F → List ℕ → Result (Unit {0}) E → F → Type 0} {f g : F} {w : Walk}
-    {r : Result ℕ E} {place : ℕ} → TakesRest step f w r g → r ≡ Ok place → (K : F → Type 0)
-    → ((p : F) (piece : List ℕ) (q : F) → K p → step p piece (Ok tt) q → K q) → K f → K g
-rest_preserves {step = step} {f = f} {g = g} took e K keeps k =
-    let t = rw e at took in run_preserves step K keeps t.run f g t.ran t.gave.1 k
 
 -- a closure that can always be called can be called until it returns an error
 pub until_error : {F E : Type 0} (closure : Mut F (Bor (List ℕ) × Unit {0}) (Result (Unit {0}) E)) (f : F)
@@ -213,45 +254,80 @@ callable_on closure {f} {g} {bytes} can s = λ run h ran n more.
 -- A body that is not base64
 
 module _ {F E : Type 0} (step : F → List ℕ → Result (Unit {0}) E → F → Type 0) where
-  -- the closure returned an error for the prefix of a body
-  pub prefix_refused : {f g : F} {text bytes : List ℕ} {w : Walk} {e : E} → IsBodyPrefix text bytes w
-      → step f bytes (Err e) g
-      → Decodes step f (length text + 1) (outcome false (plain_body text)) (IsBodyEnd text) (Err (WriteError e)) g
-  unfolding outcome
-  prefix_refused {g = g} {bytes = bytes} {w = w} {e = e} i s = record {
-    run = record { piece = bytes; answer = Err e; after = g } ∷ [];
-    ran = (s, λ e. refl, refl);
-    calls = omega arith;
-    gave = record { bytes_begin = (w.rest, cc (i.body_is, append-nil bytes)); answer = refl };
+  -- the prefix of a body is the next bytes of a walk at its start
+  prefix_takes : {text bytes : List ℕ} {w : Walk} → IsBodyPrefix text bytes w → 1 ≤ length bytes
+      → Takes (walk_at_start text) bytes w
+  prefix_takes i some = record {
+    text_stays = i.text_is;
+    rest_is = i.body_is;
+    place = omega (arith, i.place_is);
+    within = omega (arith, i.within, ap length i.text_is);
+    some = some;
+    short = i.short;
   }
 
-  -- the closure was called with the prefix of a body, by at most one call, and then with the rest
-  pub prefix_then : {f g h : F} {text bytes : List ℕ} {w : Walk} {r : Result ℕ E} {r' : Result ℕ (DecodeError E)}
-      (first : List (Call F E)) → IsBodyPrefix text bytes w → length first ≤ 1 → IsRun step f first g
-      → refusal first ≡ None → joined_pieces first ≡ bytes → TakesRest step g w r h
-      → MatchResult r (λ place. r' ≡ Ok place) (λ e. r' ≡ Err (WriteError e))
-      → Decodes step f (length text + 1) (outcome false (plain_body text)) (IsBodyEnd text) r' h
-  unfolding outcome
-  prefix_then {f} {g} {h} {text} {bytes} {w} {r = Ok place} {r'} first i one ran none is t m = record {
-    run = first ++ t.run;
-    ran = run-append step first t.run f g h ran none t.ran;
-    calls = omega (arith, one, t.calls, length-append first t.run, ap length i.text_is);
-    gave = match_at None _ _ _ (refusal-append first t.run none ∙ t.gave.1) (record {
-      bytes_are = cc (joined_pieces-append first t.run, is, i.body_is, t.gave.2);
-      answer = rw m (rw i.text_is at t.gave.0);
-    });
+  -- the closure was called with the prefix
+  pub prefix_taken : {f g : F} {text bytes : List ℕ} {w : Walk} (most : ℕ) → IsBodyPrefix text bytes w
+      → 1 ≤ length bytes → step f bytes (Ok tt) g
+      → TakesSoFar step f (walk_at_start text) (length bytes + most) most g w
+  prefix_taken {f} {g} {text} {bytes} {w} most i some s =
+      subst (λ left. TakesSoFar step f (walk_at_start text) (length bytes + most) left g w) (omega arith)
+      (takes_more step (takes_none step (length bytes + most) (omega (arith, body_shorter text))) (prefix_takes i some) (omega arith) s)
+
+  -- the prefix is empty
+  pub prefix_empty : {f : F} {text bytes : List ℕ} {w : Walk} (most : ℕ) → IsBodyPrefix text bytes w
+      → bytes ≡ [] → TakesSoFar step f (walk_at_start text) (length bytes + most) most f w
+  prefix_empty {f} {text} {bytes} {w} most i none = record {
+    takes = record {
+      run = [];
+      ran = refl;
+      accepted = refl;
+      text_stays = i.text_is;
+      calls = omega arith;
+      within = omega (arith, i.within, ap length i.text_is);
+      short = i.short;
+      body = cc (i.body_is, none);
+    };
+    few = omega (arith, ap length none);
+    goes = λ l. absurd (omega (arith, l, ap length none));
+    all = λ l. omega (arith, l, i.place_is, ap length none);
   }
-  prefix_then {f} {g} {h} {text} {bytes} {w} {r = Err e} {r'} first i one ran none is t m =
-      let p = prefix_after bytes (joined_pieces t.run) w.rest t.gave.1 in
+
+  -- the closure returned an error for it
+  pub prefix_refused : {f g : F} {text bytes : List ℕ} {w : Walk} {e : E} (most : ℕ) → IsBodyPrefix text bytes w
+      → 1 ≤ length bytes → step f bytes (Err e) g
+      → TakesUntil step f (walk_at_start text) (length bytes + most) e g
+  prefix_refused {text = text} {bytes = bytes} most i some s =
+      takes_refused step (takes_none step (length bytes + most) (omega (arith, body_shorter text))) (prefix_takes i some)
+      (omega arith) s
+
+  -- the closure was called with the whole body
+  pub plain_decoded : {f g : F} {text : List ℕ} {w : Walk} {most place : ℕ}
+      → TakesPart step f (walk_at_start text) most g w → w.rest ≡ [] → IsBodyEnd w.text place
+      → Decodes step f (length text + 1) (outcome false (plain_body text)) (IsBodyEnd text) (Ok place) g
+  unfolding outcome
+  plain_decoded {f} {g} {text} {w} {most} {place} part over end =
+      let t = part.takes in
       record {
-        run = first ++ t.run;
-        ran = run-append step first t.run f g h ran none t.ran;
-        calls = omega (arith, one, t.calls, length-append first t.run, ap length i.text_is);
-        gave = match_at (Some e) _ _ _ (refusal-append first t.run none ∙ t.gave.0) (record {
-          bytes_begin = (p.0, cc (joined_pieces-append first t.run, is, i.body_is, p.1));
-          answer = m;
+        run = t.run;
+        ran = t.ran;
+        calls = omega (arith, t.calls, t.within, ap length t.text_stays);
+        gave = match_at None _ _ _ t.accepted (record {
+          bytes_are = cc (t.body, over, append-nil (joined_pieces t.run));
+          answer = rw t.text_stays at end;
         });
       }
+
+  -- the closure returned an error
+  pub plain_refused : {f g : F} {text : List ℕ} {e : E} {most : ℕ} → TakesUntil step f (walk_at_start text) most e g
+      → Decodes step f (length text + 1) (outcome false (plain_body text)) (IsBodyEnd text) (Err (WriteError e)) g
+  unfolding outcome
+  plain_refused {e = e} t = record {
+    run = t.run;
+    ran = t.ran;
+    calls = omega (arith, t.calls);
+    gave = match_at (Some e) _ _ _ t.refused (record { bytes_begin = t.begins; answer = refl });
+  }
 
 -- A body of base64
 

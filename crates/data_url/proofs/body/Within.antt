@@ -4,7 +4,7 @@ use Rattle.std.proofs.Common.{Result, Ok, Err, refl, sym, ap, ◌∙◌, append_
 use Rattle.std.proofs.Common.{MatchBool, ℕ}
 use Rattle.std.proofs.Common.{Some, false, cond, MatchOption, MatchResult, true, append-nil, ◌≡◌, ◌+◌, ◌≤◌, ◌*◌, ◌<◌}
 use Rattle.std.proofs.Common.{List}
-use Rattle.std.proofs.Common.{[], ◌∷◌, ◌++◌, length, Option, None, drop, take, length-drop, length-take}
+use Rattle.std.proofs.Common.{[], ◌∷◌, ◌++◌, length, Option, None, drop, take, length-take}
 use Rattle.std.proofs.Common.{length-take-le, subst}
 use Rattle.std.proofs.Common.{take-take, min, ◌-◌, inl, inr}
 use Rattle.std.{proofs.lemmas.Bool.{cases_Bool, cases_lt}, specs.List.{list_all}}
@@ -15,20 +15,19 @@ use Rattle.data_url.specs.Base64.{rest_bytes}
 use Rattle.data_url.specs.Base64.{values, without_whitespace}
 use Rattle.data_url.specs.DataUrl.{Decodes, HandsOut}
 use Rattle.data_url.specs.Decoder.{Feeds, Finishes, IsTaken, State, left_over, start}
-use Rattle.data_url.specs.{Errors.{IsRefused}, Laws.{GoesOn}}
-use Rattle.data_url.specs.Fetch.{Bad, Good, Outcome, outcome, outcome_bytes, plain_body}
+use Rattle.data_url.specs.{Laws.{GoesOn}}
+use Rattle.data_url.specs.Fetch.{outcome, outcome_bytes, plain_body}
 use Rattle.data_url.specs.{Parts.{prepend}, Pieces.{Walk}, Url.{after, number_sign}}
 use Rattle.data_url.specs.Run.{Call, IsPrefix, IsRun, joined_pieces, refusal}
 use Rattle.data_url.specs.Steps.{Chunks.{IsBodyFrom, TakesPart, TakesUntil}, Holding.{FeedsFront}, Tail.{IsBodyEnd}}
-use Rattle.data_url.specs.Steps.{Parts.{DecodesWithin, StopsAt}, Whole.{DecodesText}, Window.{is_plain}}
+use Rattle.data_url.specs.Steps.{Parts.{DecodesWithin, StopsAt}, Window.{is_plain}}
 use Rattle.data_url.specs.declared.body.Stop.TheVariants.{Ended, Paused}
 use Rattle.data_url.specs.declared.body.Stop.{Stop}
 use Rattle.data_url.specs.declared.forgiving_base64.DecodeError.TheVariants.{InvalidBase64, WriteError}
 use Rattle.data_url.specs.declared.forgiving_base64.DecodeError.{DecodeError}
-use Rattle.data_url.specs.declared.forgiving_base64.left_over.LeftOver.{LeftOver}
-use Rattle.data_url.proofs.body.Decoding.{body_shorter, front_body, outcome_alike}
+use Rattle.data_url.proofs.body.Decoding.{front_body, outcome_alike}
 use Rattle.data_url.proofs.forgiving_base64.Groups.{filter_length, groups_length}
-use Rattle.data_url.proofs.forgiving_base64.Padding.{done_stays, every_list_all, fault-append_some, fault_byte}
+use Rattle.data_url.proofs.forgiving_base64.Padding.{done_stays, fault-append_some, fault_byte}
 use Rattle.data_url.proofs.forgiving_base64.Padding.{fault_invalid}
 use Rattle.data_url.proofs.forgiving_base64.{Padding.{fault_some, kind_stays, none_fault}, Resumed.{before_length}}
 use Rattle.data_url.proofs.forgiving_base64.Steps.{IsSound, done_begins, feeds_goes_on, feeds_then, feeds_took}

@@ -11,7 +11,7 @@ use Rattle.data_url.specs.{Fetch.{plain_body}, Pieces.{Walk, text_of, IsStretch,
 use Rattle.data_url.specs.{Pieces.{walk_of}, Steps.Digits.{EscapeAt}}
 use Rattle.data_url.specs.Steps.Chunks.{IsBodyFrom, IsBodyPrefix, IsOver, Takes}
 use Rattle.data_url.specs.{Steps.Digits.{cleaned}, Steps.Tail.{BeginsFragment, IsBodyEnd, rest_fragment}}
-use Rattle.data_url.specs.Steps.Walk.{Ended, EndsAt, Gathers, GoesOn, IsClear, IsMarkUpTo, IsNextMark, IsPart, Knows}
+use Rattle.data_url.specs.Steps.Walk.{Ended, EndsAt, Gathers, GoesOn, IsClear, IsMarkUpTo, IsPart, Knows}
 use Rattle.data_url.specs.Steps.Walk.{KnowsAhead}
 use Rattle.data_url.specs.{Steps.Walk.{Looking, LooksOn, MayGather, Pays, Reads, Searching, Spells}, Url.{before}}
 use Rattle.data_url.specs.{Url.{after, front, without_tabs_and_newlines}, declared.escapes.Piece.{Piece}}
@@ -202,14 +202,15 @@ short_rest text place l = omega (arith, body_shorter (drop place text), length-d
 
 -- the bytes before the first marked byte are the front of the body
 pub front_is : {text bytes : List ℕ} {w : Walk} → w.text ≡ text → w.rest ≡ plain_body (drop w.place text)
-    → IsNextMark text 0 w.place → bytes ≡ slice_range text 0 w.place → IsBodyPrefix text bytes w
-front_is {text} {bytes} {w} same rest m is =
-    let reads = (spells_clear text 0 w.place m.forward m.within m.clear).reads in
-    grind (arith, short_rest text w.place m.within)
+    → IsClear text 0 w.place → w.place ≤ length text → bytes ≡ slice_range text 0 w.place → IsBodyPrefix text bytes w
+front_is {text} {bytes} {w} same rest clear within is =
+    let reads = (spells_clear text 0 w.place (omega arith) within clear).reads in
+    grind (arith, short_rest text w.place within, length-take-le w.place text within)
 
 -- after the first part of a text that is read, what follows the first '#' is what followed it
-pub front_knows : {c : Cursor} → IsNextMark (text_of c) 0 c.place → KnowsAhead c c.ahead → Knows c
-front_knows {c} m k = grind (arith, spells_clear (text_of c) 0 c.place m.forward m.within m.clear)
+pub front_knows : {c : Cursor} → IsClear (text_of c) 0 c.place → c.place ≤ length (text_of c) → KnowsAhead c c.ahead
+    → Knows c
+front_knows {c} clear within k = grind (arith, spells_clear (text_of c) 0 c.place (omega arith) within clear)
 
 -- at the end of its text, a walk ends
 pub end_knows : {c : Cursor} → Looking c.source c.block c.place 0 → c.place ≡ length (text_of c) → Ended c

@@ -1,10 +1,10 @@
 -- A whole text, fed and finished. For `decode_whole` and `decode_to_vec`.
 use Rattle.std.proofs.Common.{Err, refl, ap, sym, ◌∙◌, subst, inl, inr, arith, append_assoc, length-append, MatchBool}
-use Rattle.std.{proofs.Common.{MatchOption, append-nil}, proofs.lemmas.Bool.{cases_Bool}}
+use Rattle.std.{proofs.Common.{append-nil}, proofs.lemmas.Bool.{cases_Bool}}
 use Rattle.std.proofs.Common.{◌≡◌, ◌⊎◌, ℕ, Bool, true, false, cond, List, [], ◌++◌, Option, None, Some, Result, Ok}
 use Rattle.data_url.specs.Base64.{decoded, complete_bytes, is_valid, kind_of, left_padding, left_symbols, left_text}
 use Rattle.data_url.specs.Decoder.{Feeds, Finishes, IsTaken, State, left_over, start}
-use Rattle.data_url.specs.{Errors.{IsRefused}, Laws.{GoesOn}, declared.forgiving_base64.DecodeError.{DecodeError}}
+use Rattle.data_url.specs.{Laws.{GoesOn}, declared.forgiving_base64.DecodeError.{DecodeError}}
 use Rattle.data_url.specs.Run.{IsPrefix, joined_pieces, refusal}
 use Rattle.data_url.specs.{Steps.Whole.{DecodesText}, declared.forgiving_base64.DecodeError.TheVariants.{InvalidBase64}}
 use Rattle.data_url.proofs.{forgiving_base64.Groups.{two_feeds}, runs.Runs.{prefix_trans, refusal-append, run-append}}

@@ -1,18 +1,18 @@
 -- What a call for the next part of a body leaves. For the functions that write bodies to outputs.
-use Rattle.std.proofs.Common.{Bool, Err, List, None, Ok, Option, Result, Some, [], ap, append-nil, append_assoc}
+use Rattle.std.proofs.Common.{Bool, Err, List, None, Ok, Result, [], ap, append-nil, append_assoc}
 use Rattle.std.proofs.Common.{arith, drop}
-use Rattle.std.proofs.Common.{drop-drop, false, inl, inr, length, length-drop, length-take, refl, subst, sym, take}
-use Rattle.std.proofs.Common.{true, ◌*◌, ◌+◌, ◌++◌, ◌<◌}
-use Rattle.std.proofs.Common.{MatchOption, ◌∙◌, ◌≡◌, ◌≢◌, ◌≤◌, ℕ}
+use Rattle.std.proofs.Common.{drop-drop, false, inl, inr, length, length-drop, length-take, refl, subst}
+use Rattle.std.proofs.Common.{min, true, ◌*◌, ◌+◌, ◌++◌}
+use Rattle.std.proofs.Common.{◌∙◌, ◌≡◌, ◌≤◌, ℕ}
 use Rattle.std.proofs.{lemmas.Bool.{cases_lt}, lemmas.List.{drop_all}}
 use Rattle.std.specs.declared.convert.Infallible.{Infallible}
 use Rattle.data_url.specs.Base64.{Kind}
 use Rattle.data_url.specs.Fetch.{Bad, Good, Outcome, outcome, plain_body}
-use Rattle.data_url.specs.Parts.{EndsAt, MovesOn, WritesFront, body_after, left_over_text, prepend, rest_of}
+use Rattle.data_url.specs.Parts.{EndsAt, IsFitting, MovesOn, body_after, left_over_text, prepend}
 use Rattle.data_url.specs.Run.{IsRun, joined_pieces, refusal}
 use Rattle.data_url.specs.Decoder.{State, left_over}
 use Rattle.data_url.specs.Steps.Parts.{DecodesPartOf, DecodesWithin, HoldsLeft, IsResumed, LeavesAt, LeavesPart, Rests}
-use Rattle.data_url.specs.Steps.Parts.{StopsAt, WritesWithin}
+use Rattle.data_url.specs.Steps.Parts.{StopsAt}
 use Rattle.data_url.specs.Steps.Tail.{IsBodyEnd, rest_fragment}
 use Rattle.data_url.specs.Url.{after, number_sign}
 use Rattle.data_url.specs.declared.body.Stop.TheVariants.{Ended, Paused}
@@ -53,21 +53,6 @@ plain_goes s tail bytes place none e = cc (e, none)
 
 -- A body of base64
 
--- an output that is too small
-pub writes_nothing : (s : LeftOver) (tail out : List ℕ) → length out < 4
-    → WritesWithin true s tail out out 0 s (Ok (Paused 0))
-writes_nothing s tail out small = record {
-  bytes = [];
-  wrote = record { within = omega arith; bytes_are = refl; rest_stays = refl };
-  stops = record {
-    within = omega arith;
-    goes = λ l. absurd (omega arith);
-    after_is = refl;
-    rest_is = prepend_nil (body_after true s tail);
-    plain = λ e. absurd (cc);
-  };
-}
-
 -- a decoder that holds what is left over has its text
 held_text : {F : Type 0} {s : LeftOver} {d : State F} → HoldsLeft s d → left_over d ≡ left_over_text s
 held_text {F} {s} {d} h = cc (h.symbols_are, h.padding_is)
@@ -78,7 +63,10 @@ leaves_part : {F E : Type 0} (s s' : LeftOver) (d d' : State F) (tail : List ℕ
     → StopsAt d tail most bytes r d' → LeavesPart s tail most bytes s' r
 leaves_part s s' d d' tail most bytes (Ok (Paused place)) e e' k = record {
   within = k.within;
-  goes = k.goes;
+  goes = λ l. elim (cases_lt 0 most) [
+    | inl some ↦ k.goes some
+    | inr none ↦ absurd (omega (arith, l, k.some_left))
+  ];
   after_is = k.after_is;
   rest_is = rw (e, e') at k.rest_is;
   plain = λ e. absurd (cc);
@@ -122,17 +110,20 @@ module _ {F : Type 0} {step : F → List ℕ → Result (Unit {0}) Infallible �
   part_gave d = match_at_none _ _ _ (no_refusal (refusal d.run)) d.gave
 
 -- an output of four bytes is enough to go on
-pub leaves_at : (s s' : LeftOver) (tail : List ℕ) (most : ℕ) (Could : Type 0) (bytes : List ℕ) (stop : Stop)
-    → (Could → 1 ≤ most) → LeavesAt true s tail (1 ≤ most) bytes s' (Ok stop)
-    → LeavesAt true s tail Could bytes s' (Ok stop)
-leaves_at s s' tail most Could bytes (Paused place) some k = record {
+fitting_some : (pending len room n : ℕ) → IsFitting pending len room n → pending ≤ 3 → 4 ≤ room → min 1 len ≤ n
+fitting_some pending len room n h few l = grind (arith)
+
+pub leaves_at : (s s' : LeftOver) (tail : List ℕ) (pending most room : ℕ) (bytes : List ℕ) (stop : Stop) → pending ≤ 3
+    → IsFitting pending (length tail) room most → LeavesAt true s tail (min 1 (length tail) ≤ most) bytes s' (Ok stop)
+    → LeavesAt true s tail (4 ≤ room) bytes s' (Ok stop)
+leaves_at s s' tail pending most room bytes (Paused place) few fitting k = record {
   within = k.within;
-  goes = λ l. k.goes (some l);
+  goes = λ l. k.goes (fitting_some pending (length tail) room most fitting few l);
   after_is = k.after_is;
   rest_is = k.rest_is;
   plain = k.plain;
 }
-leaves_at s s' tail most Could bytes (Ended place) some k = k
+leaves_at s s' tail pending most room bytes (Ended place) few fitting k = k
 
 -- Bodies
 

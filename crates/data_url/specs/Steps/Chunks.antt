@@ -6,7 +6,6 @@ use Rattle.std.specs.Prelude.{drop, false, length, true, ℕ}
 use Rattle.data_url.specs.Fetch.{plain_body}
 use Rattle.data_url.specs.Pieces.{Walk}
 use Rattle.data_url.specs.Run.{Call, IsPrefix, IsRun, joined_pieces, refusal}
-use Rattle.data_url.specs.Steps.Tail.{IsBodyEnd}
 
 -- the walk w returns these bytes of its body, at least one, and is w' after that
 pub record Takes (w : Walk) (bytes : List ℕ) (w' : Walk) : Type 0 where
@@ -34,7 +33,7 @@ GivesBytes w given w' = MatchOption given (IsOver w w') (λ bytes. Takes w bytes
 pub record IsBodyPrefix (text bytes : List ℕ) (w : Walk) : Type 0 where
   pub text_is : w.text ≡ text
   pub body_is : plain_body text ≡ bytes ++ w.rest
-  pub few : length bytes ≤ w.place
+  pub place_is : w.place ≡ length bytes
   pub within : w.place ≤ length text
   pub short : w.place + length w.rest ≤ length w.text
 
@@ -63,17 +62,6 @@ pub record TakesOn {F E : Type 0} (step : F → List ℕ → Result (Unit {0}) E
   pub within : w'.place ≤ length w'.text
   pub short : w'.place + length w'.rest ≤ length w'.text
   pub body : w.rest ≡ joined_pieces run ++ w'.rest
-
--- the closure f was called with the body from where the walk w is, at most once for each byte of the text from there
--- on, and is g after that; the result is the place where the body ends, or the error that ended the calls
-pub record TakesRest {F E : Type 0} (step : F → List ℕ → Result (Unit {0}) E → F → Type 0) (f : F) (w : Walk)
-    (r : Result ℕ E) (g : F) : Type 0 where
-  pub run : List (Call F E)
-  pub ran : IsRun step f run g
-  pub calls : w.place + length run ≤ length w.text
-  pub gave : MatchResult r
-      (λ place. IsBodyEnd w.text place × (refusal run ≡ None) × (w.rest ≡ joined_pieces run))
-      (λ e. (refusal run ≡ Some e) × IsPrefix (joined_pieces run) w.rest)
 
 -- the closure f was called with at most `most` bytes of the body of the walk w up to where it is
 -- w', and is g after that; no

@@ -1,6 +1,6 @@
 -- A decoder that goes on after what a text has left over, and closures that write to an output.
 use Rattle.std.specs.Prelude.{◌*◌, ◌+◌, ◌++◌, ◌<◌, ◌≡◌, ◌≤◌, Bool, Err, List, MatchOption, Ok, Result, drop, false}
-use Rattle.std.specs.Prelude.{length, take, true, ℕ}
+use Rattle.std.specs.Prelude.{length, min, take, true, ℕ}
 use Rattle.data_url.specs.Base64.{Kind, complete_bytes, first_fault, kind_of}
 use Rattle.data_url.specs.Decoder.{Finishes, State, left_over}
 use Rattle.data_url.specs.Errors.{IsRefused}
@@ -101,9 +101,9 @@ LeavesAt flag s tail Could bytes s' (Err kind) = body_after flag s tail ≡ Bad 
 -- the same, for a decoder that calls a closure which returns no error
 abbrev pub LeavesPart : {E : Type 0} → LeftOver → List ℕ → ℕ → List ℕ → LeftOver → Result Stop (DecodeError E)
     → Type 0
-LeavesPart s tail most bytes s' (Ok stop) = LeavesAt true s tail (1 ≤ most) bytes s' (Ok stop)
+LeavesPart s tail most bytes s' (Ok stop) = LeavesAt true s tail (min 1 (length tail) ≤ most) bytes s' (Ok stop)
 LeavesPart s tail most bytes s' (Err (InvalidBase64 kind)) =
-    LeavesAt true s tail (1 ≤ most) bytes s' (Err kind)
+    LeavesAt true s tail (min 1 (length tail) ≤ most) bytes s' (Err kind)
 LeavesPart s tail most bytes s' (Err (WriteError e)) = ⊥
 
 -- the closure f is called with the bytes that at most `most` bytes of the body of the tail complete

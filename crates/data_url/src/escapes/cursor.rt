@@ -78,13 +78,15 @@ impl<'a> Cursor<'a> {
         }
     }
 
-    /// The bytes before the first marked byte. The walk goes there. If the first byte is a `%`, it is read by itself, so that the
-    /// bytes after its escape can be packed: it is a block. The look at another first byte does not count against the bound.
+    /// The bytes before the first marked byte, at most a number of them. The walk goes there. If the first byte is a `%`, it is read by
+    /// itself, so that the bytes after its escape can be packed: it is a block. The look at another first byte does not count
+    /// against the bound.
     #[inline(always)]
-    pub(super) fn next_prefix(&mut self) -> &'a [u8]
+    pub(super) fn next_prefix(&mut self, most: usize) -> &'a [u8]
         requires start { self.old.place ≡ 0 }
         requires unread { self.old.source.looks ≡ 0 }
         ensures prefix { IsBodyPrefix (text_of self.old) result.now (walk_of self.new) }
+        ensures few { length result.now ≤ most }
         ensures knows { Knows self.new }
     {
         let is_percent = self.source.len() > 0 && self.source.look(0) == b'%';
@@ -94,14 +96,15 @@ impl<'a> Cursor<'a> {
             marks: u64::from(is_percent),
         };
         let len = self.source.len();
-        let mark = self.block.next_mark(&mut self.source, 0, len);
-        self.place = mark;
-        self.ahead = if mark == len {
+        let end = len.min(most);
+        let place = self.block.next_mark(&mut self.source, 0, end).min(end);
+        self.place = place;
+        self.ahead = if place == len {
             Ahead::End
         } else {
             Ahead::Unknown
         };
-        self.source.cut(0, mark)
+        self.source.cut(0, place)
     }
 
     /// The next piece, of at most a number of bytes: a slice is cut after that many.

@@ -25,13 +25,15 @@ impl<'a> Model for Walk<'a> {
 }
 
 impl<'a> Walk<'a> {
-    /// Returns the bytes of a text before its first mark, which are bytes of the body, and the walk after them.
+    /// Returns the bytes of a text before its first mark, at most a number of them, which are bytes of the body, and the walk after
+    /// them.
     #[inline(always)]
-    pub(crate) fn after_prefix(text: &'a [u8]) -> (&'a [u8], Self)
-        ensures { IsBodyPrefix text.entry.now result.0.now result.1 }
+    pub(crate) fn after_prefix(text: &'a [u8], most: usize) -> (&'a [u8], Self)
+        ensures prefix { IsBodyPrefix text.entry.now result.0.now result.1 }
+        ensures few { length result.0.now ≤ most }
     {
         let mut cursor = Cursor::new(text);
-        let prefix = cursor.next_prefix();
+        let prefix = cursor.next_prefix(most);
         (prefix, Walk { cursor })
     }
 

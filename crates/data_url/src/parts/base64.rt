@@ -3,7 +3,7 @@
 ghost use Rattle.std.specs.Prelude.{◌≡◌};
 ghost use Rattle.data_url.specs.Parts.{FeedsPart, FinishesText, left_over_text};
 
-use super::output::{fault_of, push};
+use super::output::{fault_of, fitting_len, push};
 use crate::forgiving_base64::{
     DecodeError, InvalidBase64Details, LeftOver, decode_part, finish_part,
 };
@@ -26,17 +26,16 @@ impl LeftOver {
     /// left over. Writes the bytes of the groups of four symbols that are complete then to the start of the output, and
     /// leaves the rest of the output as it is.
     ///
-    /// It reads as many bytes of the part as surely fit, if all of them are symbols: `output.len() / 3 * 4 + 3` less
-    /// the number of symbols left over. With an output of three bytes or more, that is at least four. What is left of
-    /// the part is fed next.
+    /// It reads the whole part if its bytes surely fit the output, with those that `finish` would add. Otherwise it reads as
+    /// many bytes as give whole groups that fit, if all of them are symbols: with an output of three bytes or more, at least
+    /// one. What is left of the part is fed next.
     ///
     /// Returns `InvalidBase64Details` for the first fault among the bytes that were read, after the bytes of the groups
     /// before it: a byte that is neither white space nor `=` nor a symbol, or a symbol after a `=`.
     pub fn feed(self, input: &[u8], output: &mut [u8]) -> Fed
         ensures { FeedsPart self input.now output.old output.new result }
     {
-        let fitting = output.len() / 3 * 4 + 3 - self.pending();
-        let read = input.len().min(fitting);
+        let read = fitting_len(self.pending(), input, output);
         let mut left_over = self;
         let mut len = 0;
         let mut write = |piece: &[u8]| -> Result<(), Infallible> {

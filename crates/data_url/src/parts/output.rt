@@ -1,10 +1,11 @@
 //! Outputs that pieces are written to, one after another, and bodies that are decoded into them.
 
-ghost use Rattle.std.specs.Prelude.{◌≡◌, false, true};
+ghost use Rattle.std.specs.Prelude.{◌≡◌, ◌+◌, ◌*◌, ◌/◌, ◌%◌, ◌≤◌, false, length, true};
+ghost use Rattle.data_url.specs.Parts.{IsFitting};
 ghost use Rattle.data_url.specs.Steps.Parts.{Writes, WritesWithin};
 ghost use Rattle.data_url.specs.declared.forgiving_base64.left_over.LeftOver.{LeftOver};
 
-use crate::body::{Stop, decode_base64_part, take_within};
+use crate::body::{Stop, decode_base64_part, take_after};
 use crate::escapes::Walk;
 use crate::forgiving_base64::{DecodeError, InvalidBase64Details, LeftOver};
 use std::convert::Infallible;
@@ -31,22 +32,36 @@ pub(super) fn fault_of(error: &DecodeError<Infallible>) -> InvalidBase64Details
     }
 }
 
-/// With a smaller output, nothing of a body of base64 is decoded: its last bytes, of which there are up to two, have to fit.
-const SMALLEST: usize = 2;
+/// Returns how many bytes of a text of base64 are decoded into an output, after a number of symbols that are left over: all, if their
+/// bytes surely fit, with those that end the text. Otherwise so many that, if all are symbols, the last of them ends a group.
+pub(super) fn fitting_len(pending: usize, text: &[u8], output: &[u8]) -> usize
+    requires { pending ≤ 3 }
+    ensures fitting { IsFitting pending (length text.now) (length output.now) result }
+    ensures groups { pending + result ≤ length output.now / 3 * 4 + 3 }
+    ensures ends { 2 ≤ length output.now
+        → pending + result ≤ length output.now / 3 * 4 + length output.now % 3 + 1 }
+{
+    let groups = output.len() / 3 * 4;
+    // Two or three symbols at the end have one or two bytes.
+    if pending + text.len() <= groups + output.len() % 3 + 1 {
+        return text.len();
+    }
+    groups.saturating_sub(pending)
+}
 
 /// Decodes the next bytes of a body that is not base64 into an output.
 fn write_plain(tail: &[u8], output: &mut [u8]) -> (usize, Result<Stop, InvalidBase64Details>)
     ensures { (s : LeftOver) → (s.pending ≡ 0) × (s.padding ≡ 0) → WritesWithin false s tail.now
         output.old output.new result.0 s result.1 }
 {
-    let mut walk = Walk::from_place(tail, 0);
-    let most = output.len();
+    let (prefix, mut walk) = Walk::after_prefix(tail, output.len());
+    let most = output.len() - prefix.len();
     let mut len = 0;
     let mut write = |piece: &[u8]| -> Result<(), Infallible> {
         push(output, &mut len, piece);
         Ok(())
     };
-    if let Err(never) = take_within(&mut walk, most, &mut write) {
+    if let Err(never) = take_after(prefix, &mut walk, most, &mut write) {
         match never {}
     }
     if walk.has_ended() {
@@ -65,12 +80,10 @@ fn write_base64(
     ensures { WritesWithin true left_over.old tail.now output.old output.new result.0
         left_over.new result.1 }
 {
-    let room = output.len();
-    if room < 2 {
+    if output.len() < 2 {
         return (0, Ok(Stop::Paused(0)));
     }
-    // Four symbols have three bytes; two or three at the end have one or two.
-    let most = room / 3 * 4 + room % 3 + 1 - left_over.pending();
+    let most = fitting_len(left_over.pending(), tail, output);
     let mut len = 0;
     let mut write = |piece: &[u8]| -> Result<(), Infallible> {
         push(output, &mut len, piece);

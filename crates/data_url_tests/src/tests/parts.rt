@@ -300,11 +300,14 @@ fn feed(
         len,
         left_over,
     } = same.unwrap_or(LeftOver::new()).feed(part, output);
-    let fitting = (size / 3)
-        .saturating_mul(4)
-        .saturating_add(3)
-        .saturating_sub(pending);
-    assert_that(rt, "read", read == part.len().min(fitting));
+    let groups = (size / 3).saturating_mul(4);
+    let symbols = part.len().saturating_add(pending);
+    let expected = if symbols <= groups.saturating_add(size % 3).saturating_add(1) {
+        part.len()
+    } else {
+        groups.saturating_sub(pending)
+    };
+    assert_that(rt, "read", read == expected);
     take_front(rt, output, len, bytes)?;
     Ok((read, left_over.map_err(number_of)))
 }

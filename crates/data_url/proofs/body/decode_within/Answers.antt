@@ -1,7 +1,7 @@
-use Rattle.std.proofs.Common.{Err, MatchResult, Ok, ap, arith, false, length, refl, rules, take, [], ◌∙◌, ◌-◌, ◌<◌}
-use Rattle.std.proofs.Common.{◌≡◌, ◌≤◌}
+use Rattle.std.proofs.Common.{Err, Ok, ap, arith, false, length, refl, rules, take, ◌∙◌}
+use Rattle.std.proofs.Common.{◌≡◌}
 use Rattle.std.{proofs.lemmas.Result.{err_from_is_err_and}, specs.Fn.{CalledAt, always_mut}}
-use Rattle.data_url.specs.{Decoder.{Finishes, state_of}, declared.body.Stop.TheVariants.{Ended}}
+use Rattle.data_url.specs.{Decoder.{Finishes, state_of}}
 use Rattle.data_url.proofs.{body.Decoding.{front_fragment}, forgiving_base64.Steps.{sound}}
 use Rattle.data_url.proofs.body.Within.{fed_front, fed_part, fed_until, front_whole, paused_goes, paused_some}
 use Rattle.data_url.proofs.body.Within.{within_ended}

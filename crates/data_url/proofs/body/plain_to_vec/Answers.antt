@@ -6,7 +6,7 @@ use Rattle.data_url.proofs.body.plain_to_vec.Goals as goal
 
 pub returns-in-Ok-0₀ : goal.returns-in-Ok-0₀
 returns-in-Ok-0₀ c =
-    let d = rw c.after_prefix-walk.ensures.text_is at c.decode_plain-ended.ensures in
+    let d = rw c.after_prefix-walk.ensures.prefix.text_is at c.decode_plain-ended.ensures in
     let h = body_reads d c.in-Ok-0₀.is (λ f. (closure.captures f).bytes.items) (λ g p g' k. search rules) in
     let n = body_keeps d (λ f. f.0.ghost_name) (λ g p r g' k. search rules) in
     let e = h.2 ∙ ap (λ x. x ++ h.0) c.in-Ok.ensures.items in

@@ -1,19 +1,16 @@
 use Rattle.std.proofs.Common.{Err, ap, arith, length, rules, ◌∙◌, ◌≤◌}
 use Rattle.data_url.specs.Run.{joined_pieces}
 use Rattle.data_url.specs.contracts.parts.output.fn.write_base64.write as closure
-use Rattle.data_url.proofs.parts.Bodies.{leaves_at, part_gave, part_passed, writes_nothing}
+use Rattle.data_url.proofs.parts.Bodies.{leaves_at, part_gave, part_passed}
 use Rattle.data_url.proofs.parts.Outputs.{passes_keeps, passes_written}
 use Rattle.data_url.proofs.parts.output.write_base64.Goals as goal
-
-pub returns-then-room-lt2 : goal.returns-then-room-lt2
-returns-then-room-lt2 c = writes_nothing c.args.left_over.now c.args.tail.now c.args.output.now (omega arith)
 
 pub returns-in-Ok : goal.returns-in-Ok
 returns-in-Ok c =
     let d = c.decode_base64_part.ensures in
     let h = part_passed d in
     let gave = part_gave d in
-    let few : length (joined_pieces d.run) ≤ length c.args.output.now = omega (arith, gave.0, c.pending.ensures) in
+    let few : length (joined_pieces d.run) ≤ length c.args.output.now = omega (arith, gave.0, c.pending.ensures, c.fitting_len-most.ensures.ends) in
     let output = passes_keeps h (λ f. f.0.ghost_name) (λ f p r f' k. search rules) in
     let len = passes_keeps h (λ f. f.1.ghost_name) (λ f p r f' k. search rules) in
     record {
@@ -21,9 +18,8 @@ returns-in-Ok c =
       wrote = passes_written h (λ f. (closure.captures f).output.now) (λ f. (closure.captures f).len)
           (λ f p f' k. search rules) (search rules) (search rules) (search (rules, output, len))
           (search (rules, output, len)) few;
-      stops = leaves_at c.args.left_over.now _ c.args.tail.now _ (4 ≤ length c.args.output.now) (joined_pieces
-          d.run) c.in-Ok.stop
-          (λ l. omega (arith, c.pending.ensures.few)) (rw c.in-Ok.is at gave.1);
+      stops = leaves_at c.args.left_over.now _ c.args.tail.now _ _ _ (joined_pieces d.run) c.in-Ok.stop
+          (c.pending.ensures.few) c.fitting_len-most.ensures.fitting (rw c.in-Ok.is at gave.1);
     }
 
 pub returns-in-Err : goal.returns-in-Err
@@ -31,7 +27,7 @@ returns-in-Err c =
     let d = c.decode_base64_part.ensures in
     let h = part_passed d in
     let gave = part_gave d in
-    let few : length (joined_pieces d.run) ≤ length c.args.output.now = omega (arith, gave.0, c.pending.ensures) in
+    let few : length (joined_pieces d.run) ≤ length c.args.output.now = omega (arith, gave.0, c.pending.ensures, c.fitting_len-most.ensures.ends) in
     let output = passes_keeps h (λ f. f.0.ghost_name) (λ f p r f' k. search rules) in
     let len = passes_keeps h (λ f. f.1.ghost_name) (λ f p r f' k. search rules) in
     record {

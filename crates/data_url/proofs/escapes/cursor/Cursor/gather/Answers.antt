@@ -1,5 +1,5 @@
 use Rattle.std.proofs.Common.{arith, lit≤}
-use Rattle.data_url.proofs.escapes.{Reading.{spells_escape}, Walking.{gathers_byte, gathers_then, walks}}
+use Rattle.data_url.proofs.escapes.{Reading.{spells_escape}, Walking.{gathers_byte, walks}}
 use Rattle.data_url.proofs.escapes.cursor.Cursor.gather.Goals as goal
 
 pub loop-more-init : goal.loop-more-init

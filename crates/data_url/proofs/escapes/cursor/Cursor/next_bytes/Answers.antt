@@ -1,4 +1,4 @@
-use Rattle.std.{proofs.Common.{arith, length}, proofs.lemmas.List.{take_more_set}}
+use Rattle.std.{proofs.Common.{arith}, proofs.lemmas.List.{take_more_set}}
 use Rattle.data_url.proofs.escapes.Walking.{over_next, takes_gathered, takes_next}
 use Rattle.data_url.specs.declared.escapes.Piece.TheVariants.{Byte, Slice}
 use Rattle.data_url.proofs.escapes.cursor.Cursor.next_bytes.Goals as goal

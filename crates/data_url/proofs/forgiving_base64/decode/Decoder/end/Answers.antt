@@ -1,4 +1,4 @@
-use Rattle.std.proofs.Common.{◌<◌, ℕ, ap, arith, inl, inr, length-take, refl, rules, sym, take, ◌∙◌}
+use Rattle.std.proofs.Common.{◌<◌, ℕ, ap, arith, inl, inr, length-take, refl, sym, take, ◌∙◌}
 use Rattle.std.specs.Fn.{CalledAt}
 use Rattle.data_url.specs.Decoder.{state_of}
 use Rattle.data_url.proofs.forgiving_base64.Padding.{every_list_all}

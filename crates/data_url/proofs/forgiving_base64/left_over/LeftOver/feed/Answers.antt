@@ -7,12 +7,12 @@ use Rattle.data_url.proofs.forgiving_base64.left_over.LeftOver.feed.Goals as goa
 pub returns-in-Ok : goal.returns-in-Ok
 returns-in-Ok c =
     let h = part_passes c.decode_part.ensures in
-    let fits = part_fits c.args.self (take c.min-read.result c.args.input.now) (length c.args.output.now)
-    (omega (arith, length-take c.min-read.result c.args.input.now)) in
+    let fits = part_fits c.args.self (take c.fitting_len-read.result c.args.input.now) (length c.args.output.now)
+    (omega (arith, length-take c.fitting_len-read.result c.args.input.now, c.pending.ensures, c.fitting_len-read.ensures.groups)) in
     let output = passes_keeps h (λ f. f.0.ghost_name) (λ f p r f' k. search rules) in
     let len = passes_keeps h (λ f. f.1.ghost_name) (λ f p r f' k. search rules) in
     record {
-      read_is = search rules;
+      read_is = rw c.pending.ensures.pending at c.fitting_len-read.ensures.fitting;
       wrote = passes_written h (λ f. (closure.captures f).output.now) (λ f. (closure.captures f).len)
           (λ f p f' k. search rules) (search rules) (search rules) (search (rules, output, len))
           (search (rules, output, len)) fits;
@@ -22,12 +22,12 @@ returns-in-Ok c =
 pub returns-in-Err : goal.returns-in-Err
 returns-in-Err c =
     let h = part_passes c.decode_part.ensures in
-    let fits = part_fits c.args.self (take c.min-read.result c.args.input.now) (length c.args.output.now)
-    (omega (arith, length-take c.min-read.result c.args.input.now)) in
+    let fits = part_fits c.args.self (take c.fitting_len-read.result c.args.input.now) (length c.args.output.now)
+    (omega (arith, length-take c.fitting_len-read.result c.args.input.now, c.pending.ensures, c.fitting_len-read.ensures.groups)) in
     let output = passes_keeps h (λ f. f.0.ghost_name) (λ f p r f' k. search rules) in
     let len = passes_keeps h (λ f. f.1.ghost_name) (λ f p r f' k. search rules) in
     record {
-      read_is = search rules;
+      read_is = rw c.pending.ensures.pending at c.fitting_len-read.ensures.fitting;
       wrote = passes_written h (λ f. (closure.captures f).output.now) (λ f. (closure.captures f).len)
           (λ f p f' k. search rules) (search rules) (search rules) (search (rules, output, len))
           (search (rules, output, len)) fits;
