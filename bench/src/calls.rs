@@ -116,6 +116,26 @@ pub fn decode(text: &[u8], out: &mut [u8]) -> usize {
     }
 }
 
+/// The crate has no pieces that a caller asks for, so this is `decode`. What has no room is not kept.
+#[allow(dead_code)]
+pub fn pieces(text: &[u8], out: &mut [u8]) -> usize {
+    let Ok(url) = DataUrl::process(text_of(text)) else {
+        return REFUSED;
+    };
+    let mut buffer = Buffer { room: out, len: 0 };
+    let mut sum = Sum::default();
+    let decoded = url.decode(|piece: &[u8]| {
+        if buffer.append(piece).is_err() {
+            buffer.len = buffer.room.len();
+        }
+        sum.add(piece)
+    });
+    match decoded {
+        Ok(_) => sum.len,
+        Err(_) => REFUSED,
+    }
+}
+
 pub fn decode_summed(text: &[u8], out: &mut [u8]) -> usize {
     let Ok(url) = DataUrl::process(text_of(text)) else {
         return REFUSED;

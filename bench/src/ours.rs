@@ -22,6 +22,7 @@ exports! {
     decode_summed = data_url_decode_summed;
     decode_to_vec = data_url_decode_to_vec;
     fragment = data_url_fragment;
+    pieces = data_url_pieces;
     mime_printed = data_url_mime_printed;
 }
 

@@ -92,6 +92,11 @@ fn push_urls(table: &mut Table) {
     ];
     let (summed, all) = (each!(decode_summed), each!(decode));
     let to_vec = each!(decode_to_vec);
+    for (name, make) in &shapes[..3] {
+        let calls = (ours::pieces as Call, theirs::pieces as Call);
+        table.push(format!("{name} pieces summed"), *make, calls);
+        table.push(format!("{name} pieces"), *make, calls).is_timed_with_room = true;
+    }
     for (name, make) in shapes {
         push(table, format!("{name} decode summed"), make, summed, all);
         push(table, format!("{name} decode_to_vec"), make, to_vec, to_vec);

@@ -29,4 +29,12 @@ impl<'a> Buffer<'a> {
         self.len = end;
         Ok(())
     }
+
+    /// Appends a piece, if there is room.
+    #[inline(always)]
+    pub(crate) fn append_if_room(&mut self, piece: &[u8]) {
+        if self.append(piece).is_err() {
+            self.len = self.room.len();
+        }
+    }
 }

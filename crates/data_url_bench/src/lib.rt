@@ -14,6 +14,7 @@ mod buffer;
 mod sum;
 
 use buffer::Buffer;
+use data_url::escapes::{Piece, Pieces};
 use data_url::DataUrl;
 use data_url::forgiving_base64::{Decoder, decode_to_vec};
 use data_url::mime::Mime;
@@ -150,6 +151,37 @@ pub extern "C" fn data_url_decode_to_vec(alloc: Global, text: &[u8], out: &mut [
         Ok(found) => show(&found.0, out),
         Err(_) => REFUSED,
     }
+}
+
+/// `DataUrl::process`, and the `Pieces` of the text after the first comma, which are added up.
+#[unsafe(no_mangle)]
+pub extern "C" fn data_url_pieces(alloc: Global, text: &[u8], out: &mut [u8]) -> usize
+    requires { IsUtf8 text.now }
+{
+    let text = unsafe { str::from_utf8_unchecked(text) };
+    if DataUrl::process(alloc, text).is_err() {
+        return REFUSED;
+    }
+    let Some((_, tail)) = text.split_once(',') else {
+        return REFUSED;
+    };
+    let mut buffer = Buffer::new(out);
+    let mut sum = Sum::new();
+    let mut pieces = Pieces::new(tail);
+    for _ in 0..tail.len() {
+        match pieces.next() {
+            None => return sum.len(),
+            Some(Piece::Slice(slice)) => {
+                sum.add(slice);
+                buffer.append_if_room(slice);
+            }
+            Some(Piece::Byte(byte)) => {
+                sum.add(&[byte]);
+                buffer.append_if_room(&[byte]);
+            }
+        }
+    }
+    sum.len()
 }
 
 /// `DataUrl::process`, `DataUrl::decode` and the fragment's `to_percent_encoded`.

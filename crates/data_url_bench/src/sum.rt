@@ -25,6 +25,11 @@ impl Sum {
         }
     }
 
+    /// Returns how many bytes the pieces have.
+    pub(crate) fn len(&self) -> usize {
+        self.len
+    }
+
     /// Returns how many bytes the pieces have. The sum of their first bytes goes to `out`, if that has room.
     pub(crate) fn show(self, out: &mut [u8]) -> usize {
         if let Some(byte) = out.first_mut() {
