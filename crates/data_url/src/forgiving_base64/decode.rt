@@ -170,6 +170,9 @@ where
             (state_of self.new) }
     {
         let mut at = self.read_blocks(text)?;
+        if at == text.len() {
+            return Ok((at, None));
+        }
         let mut groups = HeldGroups::new();
         while at < text.len() {
             match self.state.take_some(&text[at..], &mut groups) {
