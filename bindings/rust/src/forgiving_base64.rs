@@ -162,6 +162,9 @@ where
     /// `InvalidBase64` if the text is not valid, and `WriteError` with the closure's error.
     pub fn finish(mut self) -> Result<(), DecodeError<E>> {
         self.ended()?;
+        if self.state.is_whole() {
+            return Ok(());
+        }
         let mut room = Room::<4>::new();
         let (status, bytes) = self.state.finish(&mut room);
         self.status = status;

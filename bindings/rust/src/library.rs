@@ -359,6 +359,11 @@ impl Base64 {
         (fed.status, room.written(fed.len), fed.read)
     }
 
+    /// Whether nothing is left over: the text is valid then, and has no more bytes.
+    pub(crate) fn is_whole(&self) -> bool {
+        self.pending == 0 && self.padding == 0
+    }
+
     /// Ends the text: the status, and the last bytes.
     pub(crate) fn finish<'r, const N: usize>(&mut self, room: &'r mut Room<N>) -> (u32, &'r [u8]) {
         let answer = unsafe { dataurl_base64_finish(self, room.as_mut_ptr(), N) };
@@ -383,6 +388,9 @@ pub(crate) fn base64(input: &[u8]) -> (u32, Vec<u8>) {
             return (fed.status, bytes);
         }
         rest = &rest[fed.read..];
+    }
+    if state.is_whole() {
+        return (DONE, bytes);
     }
     let finish = |out, room| unsafe { dataurl_base64_finish(&mut state, out, room) };
     let answer = unsafe { append(&mut bytes, finish, |answer| answer.len) };
