@@ -5,7 +5,8 @@ use Rattle.std.proofs.Common.{Some, false, cond, length-drop, length-take, Match
 use Rattle.std.proofs.Common.{◌≡◌, ℕ, ◌+◌, ◌≤◌, List, [], ◌∷◌, ◌++◌, Bor, length, Option, None, drop, take, inl, inr}
 use Rattle.std.proofs.Common.{max, ◌⊎◌}
 use Rattle.std.proofs.Common.{◌==◌, not, length-take-le, take-append-drop, take-take, take-add, ◌-◌, ◌<◌, ◌&&◌, ap₂}
-use Rattle.std.{proofs.Common.{get_or, get_or-take, get_or-drop, subst}, proofs.lemmas.Bool.{and_parts, cases_Bool, cases_lt}}
+use Rattle.std.proofs.Common.{get_or, get_or-take, get_or-drop, subst}
+use Rattle.std.proofs.lemmas.Bool.{and_parts, cases_Bool, cases_lt}
 use Rattle.std.{proofs.lemmas.List.{length-map}, proofs.lemmas.List.Folds.{list_all-append}}
 use Rattle.std.{specs.Char.{is_ascii_whitespace}, specs.Fn.{CalledAt, Mut, always_mut}, specs.List.{list_all}}
 use Rattle.data_url.specs.Base64.{decoded, complete_bytes, after_groups, groups, rest_bytes, values}
@@ -272,7 +273,8 @@ module _ {F E : Type 0} (step : F → List ℕ → Result (Unit {0}) E → F →
       → TakesSoFar step f (walk_at_start text) (length bytes + most) most g w
   prefix_taken {f} {g} {text} {bytes} {w} most i some s =
       subst (λ left. TakesSoFar step f (walk_at_start text) (length bytes + most) left g w) (omega arith)
-      (takes_more step (takes_none step (length bytes + most) (omega (arith, body_shorter text))) (prefix_takes i some) (omega arith) s)
+      (takes_more step (takes_none step (length bytes + most) (omega (arith, body_shorter text))) (prefix_takes i some)
+      (omega arith) s)
 
   -- the prefix is empty
   pub prefix_empty : {f : F} {text bytes : List ℕ} {w : Walk} (most : ℕ) → IsBodyPrefix text bytes w
@@ -298,8 +300,8 @@ module _ {F E : Type 0} (step : F → List ℕ → Result (Unit {0}) E → F →
       → 1 ≤ length bytes → step f bytes (Err e) g
       → TakesUntil step f (walk_at_start text) (length bytes + most) e g
   prefix_refused {text = text} {bytes = bytes} most i some s =
-      takes_refused step (takes_none step (length bytes + most) (omega (arith, body_shorter text))) (prefix_takes i some)
-      (omega arith) s
+      takes_refused step (takes_none step (length bytes + most) (omega (arith, body_shorter text)))
+      (prefix_takes i some) (omega arith) s
 
   -- the closure was called with the whole body
   pub plain_decoded : {f g : F} {text : List ℕ} {w : Walk} {most place : ℕ}

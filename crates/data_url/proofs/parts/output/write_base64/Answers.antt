@@ -10,7 +10,12 @@ returns-in-Ok c =
     let d = c.decode_base64_part.ensures in
     let h = part_passed d in
     let gave = part_gave d in
-    let few : length (joined_pieces d.run) ≤ length c.args.output.now = omega (arith, gave.0, c.pending.ensures, c.fitting_len-most.ensures.ends) in
+    let few : length (joined_pieces d.run) ≤ length c.args.output.now = omega (
+      arith,
+      gave.0,
+      c.pending.ensures,
+      c.fitting_len-most.ensures.ends,
+    ) in
     let output = passes_keeps h (λ f. f.0.ghost_name) (λ f p r f' k. search rules) in
     let len = passes_keeps h (λ f. f.1.ghost_name) (λ f p r f' k. search rules) in
     record {
@@ -27,7 +32,12 @@ returns-in-Err c =
     let d = c.decode_base64_part.ensures in
     let h = part_passed d in
     let gave = part_gave d in
-    let few : length (joined_pieces d.run) ≤ length c.args.output.now = omega (arith, gave.0, c.pending.ensures, c.fitting_len-most.ensures.ends) in
+    let few : length (joined_pieces d.run) ≤ length c.args.output.now = omega (
+      arith,
+      gave.0,
+      c.pending.ensures,
+      c.fitting_len-most.ensures.ends,
+    ) in
     let output = passes_keeps h (λ f. f.0.ghost_name) (λ f p r f' k. search rules) in
     let len = passes_keeps h (λ f. f.1.ghost_name) (λ f p r f' k. search rules) in
     record {

@@ -8,7 +8,12 @@ pub returns-in-Ok : goal.returns-in-Ok
 returns-in-Ok c =
     let h = part_passes c.decode_part.ensures in
     let fits = part_fits c.args.self (take c.fitting_len-read.result c.args.input.now) (length c.args.output.now)
-    (omega (arith, length-take c.fitting_len-read.result c.args.input.now, c.pending.ensures, c.fitting_len-read.ensures.groups)) in
+    (omega (
+      arith,
+      length-take c.fitting_len-read.result c.args.input.now,
+      c.pending.ensures,
+      c.fitting_len-read.ensures.groups,
+    )) in
     let output = passes_keeps h (λ f. f.0.ghost_name) (λ f p r f' k. search rules) in
     let len = passes_keeps h (λ f. f.1.ghost_name) (λ f p r f' k. search rules) in
     record {
@@ -23,7 +28,12 @@ pub returns-in-Err : goal.returns-in-Err
 returns-in-Err c =
     let h = part_passes c.decode_part.ensures in
     let fits = part_fits c.args.self (take c.fitting_len-read.result c.args.input.now) (length c.args.output.now)
-    (omega (arith, length-take c.fitting_len-read.result c.args.input.now, c.pending.ensures, c.fitting_len-read.ensures.groups)) in
+    (omega (
+      arith,
+      length-take c.fitting_len-read.result c.args.input.now,
+      c.pending.ensures,
+      c.fitting_len-read.ensures.groups,
+    )) in
     let output = passes_keeps h (λ f. f.0.ghost_name) (λ f p r f' k. search rules) in
     let len = passes_keeps h (λ f. f.1.ghost_name) (λ f p r f' k. search rules) in
     record {
