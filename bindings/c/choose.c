@@ -79,6 +79,7 @@ static bool is_v3(void) {
 FORWARD_TEXT(struct data_url_answer, dataurl_body)
 FORWARD_TEXT(struct data_url_answer, dataurl_mime)
 FORWARD_TEXT(struct data_url_answer, dataurl_fragment)
+FORWARD_TEXT(struct data_url_fed, dataurl_fragment_next)
 FORWARD_TEXT(struct data_url_answer, dataurl_type)
 FORWARD_TEXT(struct data_url_answer, dataurl_type_parts_utf8)
 FORWARD_TEXT(struct data_url_answer, dataurl_base64)

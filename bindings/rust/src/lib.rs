@@ -50,7 +50,6 @@ extern crate alloc;
 #[cfg(not(feature = "alloc"))]
 compile_error!("the `alloc` feature must be enabled");
 
-use alloc::borrow::ToOwned;
 use alloc::string::String;
 use alloc::vec::Vec;
 use core::fmt;
@@ -211,12 +210,6 @@ impl FragmentIdentifier<'_> {
     /// Returns the fragment as the URL parser leaves it, percent-encoded.
     /// <https://url.spec.whatwg.org/#fragment-state>
     pub fn to_percent_encoded(&self) -> String {
-        // The library encodes the fragments of URLs. A fragment has no white space at its end, so nothing is trimmed
-        // here. With this header, the library makes a short record, without parameters.
-        let url = ["data:a/b,#", self.0].concat();
-        match library::fragment(&url, str::to_owned) {
-            Ok(encoded) => encoded,
-            Err(status) => unreachable!("status {}", status),
-        }
+        library::fragment(self.0)
     }
 }

@@ -71,7 +71,7 @@ pub(crate) struct Base64 {
 extern "C" {
     fn dataurl_open_parts_utf8(url: *const u8, len: usize, out: *mut u8, room: usize) -> OpenedUrl;
     fn dataurl_type_parts_utf8(text: *const u8, len: usize, out: *mut u8, room: usize) -> Answer;
-    fn dataurl_fragment(url: *const u8, len: usize, out: *mut u8, room: usize) -> Answer;
+    fn dataurl_fragment_next(text: *const u8, len: usize, out: *mut u8, room: usize) -> Fed;
     fn dataurl_body_next(
         body: *mut Body,
         tail: *const u8,
@@ -240,13 +240,26 @@ pub(crate) fn mime_type<T>(text: &str, read: impl Fn(Parts<'_>) -> T) -> Result<
     )
 }
 
-/// The result of `read` for the encoded fragment of a URL.
-pub(crate) fn fragment<T>(url: &str, read: impl Fn(&str) -> T) -> Result<T, u32> {
-    written(
-        |out, room| unsafe { dataurl_fragment(url.as_ptr(), url.len(), out, room) },
-        |answer| (answer.status, answer.len),
-        |_, text| read(text_of(text)),
-    )
+/// The text of a fragment, encoded.
+pub(crate) fn fragment(text: &str) -> String {
+    check_processor();
+    let mut bytes = Vec::new();
+    let mut rest = text.as_bytes();
+    while !rest.is_empty() {
+        bytes.reserve(room_for_fragment(rest.len()));
+        let encode =
+            |out, room| unsafe { dataurl_fragment_next(rest.as_ptr(), rest.len(), out, room) };
+        let encoded = unsafe { append(&mut bytes, encode, |encoded| encoded.len) };
+        rest = &rest[encoded.read..];
+    }
+    // The library writes ASCII alone.
+    unsafe { String::from_utf8_unchecked(bytes) }
+}
+
+/// How much room is made at once for the rest of a fragment: for all of a short one, whatever its bytes are, and for the
+/// bytes of a long one as they are.
+fn room_for_fragment(len: usize) -> usize {
+    (3 * len.min(WRITTEN)).max(len)
 }
 
 /// How many bytes an output needs for all bytes of a text of base64 of this length, so that one call writes them.

@@ -1,4 +1,4 @@
--- Bodies and base64 in parts: what a call writes to its output, and what it leaves for the next call.
+-- Bodies, base64 and fragments in parts: what a call writes to its output, and what it leaves for the next call.
 use Rattle.std.specs.List.{list_all}
 use Rattle.std.specs.Prelude.{◌%◌, ◌<◌, ◌==◌, ◌||◌}
 use Rattle.std.specs.Prelude.{◌&&◌, ◌*◌, ◌+◌, ◌++◌, ◌-◌, ◌/◌, ◌≡◌, ◌≤◌, Bool, Err, List, MatchBool, MatchOption, Ok}
@@ -9,12 +9,13 @@ use Rattle.data_url.specs.Base64.{left_padding}
 use Rattle.data_url.specs.Base64.{left_symbols, left_text}
 use Rattle.data_url.specs.Fetch.{Bad, Good, Outcome, outcome, plain_body}
 use Rattle.data_url.specs.declared.forgiving_base64.left_over.LeftOver.{LeftOver}
-use Rattle.data_url.specs.Url.{after, number_sign}
+use Rattle.data_url.specs.Url.{after, encoded_fragment, number_sign}
 use Rattle.data_url.specs.declared.parts.base64.Fed.{Fed}
 use Rattle.data_url.specs.declared.parts.body.Body.{Body}
 use Rattle.data_url.specs.declared.parts.body.Part.{Part}
 use Rattle.data_url.specs.declared.parts.body.Progress.TheVariants.{End, Fault, More}
 use Rattle.data_url.specs.declared.parts.body.Progress.{Progress}
+use Rattle.data_url.specs.declared.parts.fragment.Encoded.{Encoded}
 
 -- the bytes were written to the start of an output, and are its first len bytes; the rest of it does not change
 pub record WritesFront (bytes before after : List ℕ) (len : ℕ) : Type 0 where
@@ -123,3 +124,14 @@ pub record WritesPart (b : Body) (before after : List ℕ) (r : Part) : Type 0 w
   pub bytes : List ℕ
   pub wrote : WritesFront bytes before after r.len
   pub goes_on : Progresses b (length before) bytes r.progress
+
+-- Fragments
+
+-- the start of a fragment was written to an output, encoded, and the rest of the fragment follows it.
+-- At least one byte is read, if the text has one and the output has room for three.
+pub record EncodesPart (text before after : List ℕ) (r : Encoded) : Type 0 where
+  pub within : r.read ≤ length text
+  pub goes : 3 ≤ length before → 0 < length text → 0 < r.read
+  pub bytes : List ℕ
+  pub wrote : WritesFront bytes before after r.len
+  pub rest_is : encoded_fragment text ≡ bytes ++ encoded_fragment (drop r.read text)

@@ -2,7 +2,7 @@
 //! byte itself, `%` and its two digits or, for a tab or newline, nothing. The last byte of the entry says how long that is.
 #![tactic(auto, using(crate::proofs::percent::Encoding::parts))]
 
-ghost use Rattle.std.specs.Prelude.{◌≡◌, ◌≤◌, ◌<◌, ◌+◌, ◌++◌, ◌∷◌, [], OnOk, false, length, string_bytes, ℕ};
+ghost use Rattle.std.specs.Prelude.{◌≡◌, ◌≤◌, ◌<◌, ◌+◌, ◌-◌, ◌++◌, ◌∷◌, [], OnOk, drop, false, length, string_bytes, ℕ};
 ghost use Rattle.std.specs.Str.{IsUtf8};
 ghost use Rattle.data_url.specs.Url.{without_tabs_and_newlines, percent_encoding};
 ghost use Rattle.data_url.specs.Steps.{Classes.{is_marked}, Sets.{IsEntry, byte_encoding, in_set}};
@@ -28,13 +28,16 @@ const TESTED_AT_ONCE: usize = 16 * 1024;
 /// How many bytes are encoded by the table at a time.
 pub(crate) const PART: usize = 128;
 
+/// How many bytes a byte is written as at most.
+pub(crate) const WIDEST: usize = 3;
+
 /// The size of the buffer, in bytes: more than a part is written as.
-const BUFFER_LEN: usize = 512;
+pub(crate) const BUFFER_LEN: usize = 512;
 
 /// Returns the next bytes as they are written, without tabs and newlines and percent-encoded, and the bytes after them. At least 64
 /// bytes, or half of what is left, are returned as they are if they are written so. Otherwise at most 128 bytes are encoded.
 #[inline(always)]
-fn encode_next<'a: 'r, 'r>(
+pub(crate) fn encode_next<'a: 'r, 'r>(
     set: EncodeSet,
     bytes: &'a [u8],
     room: &'r mut [u8; BUFFER_LEN],
@@ -43,6 +46,7 @@ fn encode_next<'a: 'r, 'r>(
         ++ percent_encoding (in_set set) (without_tabs_and_newlines result.1.now)
         ≡ percent_encoding (in_set set) (without_tabs_and_newlines bytes.now) }
     ensures text { IsUtf8 result.0.now }
+    ensures after { result.1.now ≡ drop (length bytes.now - length result.1.now) bytes.now }
     ensures less { 0 < length bytes.now → length result.1.now < length bytes.now }
 {
     let (part, after_part) = bytes.split_at(bytes.len().min(PART));

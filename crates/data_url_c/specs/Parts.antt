@@ -4,7 +4,7 @@ use Rattle.std.specs.Prelude.{◌&&◌, ◌+◌, ◌++◌, ◌<◌, ◌≡◌, �
 use Rattle.std.specs.Prelude.{nat_le, nat_lt, take, true, ℕ}
 use Rattle.data_url.specs.Base64.{complete_bytes, decoded, first_fault, is_symbol, is_valid, kind_of, left_padding}
 use Rattle.data_url.specs.Base64.{left_symbols, left_text}
-use Rattle.data_url.specs.Parts.{WritesFront}
+use Rattle.data_url.specs.Parts.{EncodesPart, WritesFront}
 use Rattle.data_url_c.specs.Answers.{status_of_kind}
 use Rattle.data_url_c.specs.declared.parts.DataUrlBase64.{DataUrlBase64}
 use Rattle.data_url_c.specs.declared.parts.DataUrlFed.{DataUrlFed}
@@ -81,3 +81,11 @@ FinishesPart old new before after r =
     (MatchBool (is_valid (waiting_text old)) (EndsText (waiting_text old) old new before after r)
     (EndsFaulty (waiting_text old) new before after r))
     (DoesNothing old new before after × (r.status ≡ 12) × (r.len ≡ 0))
+
+-- the start of a fragment is encoded: status 0 if that is all of it, and otherwise 11. An output of
+-- less than three bytes gives status 5.
+pub record EncodesFragment (text before after : List ℕ) (r : DataUrlFed) : Type 0 where
+  pub small : length before < 3 → DoesNothing text text before after × (r.status ≡ 5) × (r.len ≡ 0) × (r.read ≡ 0)
+  pub encodes : 3 ≤ length before → EncodesPart text before after (record { read = r.read; len = r.len })
+  pub all : 3 ≤ length before → r.read ≡ length text → r.status ≡ 0
+  pub more : 3 ≤ length before → r.read < length text → r.status ≡ 11

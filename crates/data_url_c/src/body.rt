@@ -9,8 +9,8 @@ use crate::kind::status_of_details;
 use crate::parts::{BAD_STATE, DataUrlBase64, DataUrlStep, SPENT, left_over_in, state_with};
 use data_url::parts::{Body, Progress};
 
-/// The status of a body that goes on.
-const MORE: u32 = 11;
+/// The status of a body, or of a fragment, that goes on.
+pub(crate) const MORE: u32 = 11;
 
 /// The smallest output that a body is decoded into, in bytes.
 const SMALLEST_OUTPUT: usize = 8;

@@ -11,11 +11,11 @@
 //! | 2 | no comma before the fragment | 0 |
 //! | 3 | allocation failed | 0 |
 //! | 4 | the text is not UTF-8 | 0 |
-//! | 5 | the output is too small, and unchanged | that is needed; 0 from `dataurl_body_next` and `dataurl_base64_feed` |
+//! | 5 | the output is too small, and unchanged | that is needed; 0 from the calls in parts |
 //! | 6 | the text is not a MIME type | 0 |
 //! | 7 | the URL has no fragment | 0 |
 //! | 8, 9, 10, 256 and a byte | base64 with padding that does not fit, a lone symbol, a symbol after padding, an unexpected byte | of the bytes before the fault, at the start of the output |
-//! | 11 | the body goes on (`dataurl_body_next`) | of the part that was decoded |
+//! | 11 | the body or the fragment goes on (`dataurl_body_next`, `dataurl_fragment_next`) | of the part that was written |
 //! | 12 | a state that no call returned | 0 |
 //!
 //! The output after the bytes of a result is unchanged; if the length is 0, all of it is.
@@ -27,7 +27,7 @@ ghost use Rattle.data_url_c.specs.Bodies.{StepsBody};
 ghost use Rattle.data_url_c.specs.Gives.{GivesBase64, GivesBody, GivesFragment, GivesMime};
 ghost use Rattle.data_url_c.specs.Gives.{GivesType, GivesTypeInParts};
 ghost use Rattle.data_url_c.specs.Opens.{Opens, OpensInParts};
-ghost use Rattle.data_url_c.specs.Parts.{FeedsPart, FinishesPart};
+ghost use Rattle.data_url_c.specs.Parts.{EncodesFragment, FeedsPart, FinishesPart};
 
 mod answer;
 mod bare;
@@ -36,6 +36,7 @@ mod body;
 mod comma;
 mod flag;
 mod form;
+mod fragment;
 mod kind;
 mod open;
 mod output;
@@ -191,4 +192,14 @@ pub extern "C" fn dataurl_body_next(
     ensures { StepsBody tail.now state.old state.new out.old out.new result }
 {
     body::next(state, tail, out)
+}
+
+/// Percent-encodes the start of a fragment into the output, without allocation
+/// ([URL Standard, section 4.4, fragment state](https://url.spec.whatwg.org/#fragment-state)). The text is what follows the `#`, and
+/// may be any bytes. With status 11 the fragment goes on, and what is left of the text is encoded next.
+#[unsafe(no_mangle)]
+pub extern "C" fn dataurl_fragment_next(text: &[u8], out: &mut [u8]) -> DataUrlFed
+    ensures { EncodesFragment text.now out.old out.new result }
+{
+    fragment::next(text, out)
 }

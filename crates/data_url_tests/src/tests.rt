@@ -5,6 +5,7 @@
 mod capacity;
 mod decoder;
 mod errors;
+mod fragments;
 mod gaps;
 mod lines;
 mod mime;

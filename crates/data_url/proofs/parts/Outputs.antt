@@ -33,11 +33,11 @@ no_refusal None = refl
 no_refusal (Some e) = elim e [ ]
 
 -- the bytes so far are at the start of an output, if they fit
-abbrev Reaches : List ℕ → List ℕ → List ℕ → ℕ → Type 0
+abbrev pub Reaches : List ℕ → List ℕ → List ℕ → ℕ → Type 0
 Reaches out b bytes len = length b ≤ length out → (len ≡ length b) × (bytes ≡ b ++ drop (length b) out)
 
 -- one piece more
-reaches_more : (out b bytes piece bytes' : List ℕ) (len len' : ℕ) → Reaches out b bytes len
+pub reaches_more : (out b bytes piece bytes' : List ℕ) (len len' : ℕ) → Reaches out b bytes len
     → Writes piece bytes len bytes' len' → Reaches out (b ++ piece) bytes' len'
 reaches_more out b bytes piece bytes' len len' h w fits =
     grind (arith, length-append, length-drop, take-append_seam, drop-append-drop, append_assoc)

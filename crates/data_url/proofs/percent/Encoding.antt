@@ -1,11 +1,13 @@
 -- Percent-encoding with the entries of a table, and decoding of encoded texts. For `push_encoded`.
 use Rattle.std.proofs.Common.{append_assoc, ◌≡◌, ℕ, ◌*◌, ◌+◌, ◌-◌, ◌<◌, ◌&&◌, ◌||◌, Bool, false, true, List, [], ◌∷◌}
 use Rattle.std.proofs.Common.{length, take, drop, refl, ◌/◌, ◌%◌, ◌++◌, Option, None, Some, sym, ap, ◌∙◌, inl, inr}
+use Rattle.std.proofs.Common.{length-append}
 use Rattle.std.proofs.Common.{length-take-le, take-take, subst, append-nil, arith, suc, ◌≤◌, get_or, ◌==◌, slice_index}
 use Rattle.std.{proofs.Common.{nat_lt, take_all}, proofs.Math.Seq.{take-append-add}, proofs.lemmas.Bool.{agree_below}}
 use Rattle.std.proofs.lemmas.Bool.{agree_below_at, and_parts, eqb-true, and_left, cases_Bool, cond_both, both_ways}
 use Rattle.std.{proofs.lemmas.Bool.{cases_lt, ne_eqb, ltb-true}, proofs.lemmas.Grind.{common_steps, flat_map-append}}
-use Rattle.std.proofs.lemmas.List.{nil_from_length, take_more, get_or-take, get_or_past, length-take}
+use Rattle.std.proofs.lemmas.List.{drop-append-le, nil_from_length, take_more, get_or-take, get_or_past, length-take}
+use Rattle.std.proofs.lemmas.List.{take-append-drop}
 use Rattle.std.{proofs.lemmas.Slice.{take-put_mid}, proofs.lemmas.Slice.Eq.{bytes_eq-Decides}}
 use Rattle.std.{proofs.lemmas.Str.{IsAscii-append, IsUtf8-from_ascii}, proofs.lemmas.Str.Ascii.{IsAscii-nil}}
 use Rattle.std.{specs.Char.{digit_value, is_ascii_hexdigit}, specs.List.{AllByRecursion, list_all}}
@@ -286,6 +288,11 @@ percent_encoding-append p s t = flat_map-append (encoded_byte p) s t
 pub encoded-append : (p : ℕ → Bool) (s t : List ℕ) → encoded p (s ++ t) ≡ encoded p s ++ encoded p t
 encoded-append p s t = grind (arith, without_tabs_and_newlines-append, percent_encoding-append)
 
+-- a byte is encoded as three at most
+pub encoded_few : (p : ℕ → Bool) (s : List ℕ) → length (encoded p s) ≤ 3 * length s
+encoded_few p [] = grind (arith, encoded_empty)
+encoded_few p (b ∷ s) = grind (arith, written_first, cases_Bool, length-append, encoded_few p s)
+
 -- if each byte is written as it is, the whole text is
 pub kept_whole : (p : ℕ → Bool) (s : List ℕ)
     → ((k : ℕ) → k < length s → byte_encoding p (get_or s k 0) ≡ get_or s k 0 ∷ []) → s ≡ encoded p s
@@ -361,3 +368,22 @@ encoded_text set s text h e = subst IsUtf8 (sym e) (IsUtf8-from_ascii (encoded (
 
 -- the lemmas for `push_encoded` and what it calls
 pub ruleset parts = (append_assoc, append-nil, encoded-append, encoded_empty, nil_from_length, take_all)
+
+-- the rest of a part comes before what follows it
+pub encoded_on : (p : ℕ → Bool) (rest part x after : List ℕ) (n : ℕ) → part ≡ take n rest
+    → x ++ encoded p after ≡ encoded p part → after ≡ drop (length part - length after) part
+    → encoded p rest ≡ x ++ encoded p (drop (length part - length after) rest)
+encoded_on p rest part x after n is e suffix =
+    let whole : part ++ drop n rest ≡ rest = ap (λ t. t ++ drop n rest) is ∙ take-append-drop n rest in
+    let after_is : drop (length part - length after) rest ≡ after ++ drop n rest =
+    ap (drop (length part - length after)) (sym whole)
+    ∙ drop-append-le (length part - length after) part (drop n rest) (omega arith)
+    ∙ ap (λ t. t ++ drop n rest) (sym suffix) in
+    cc (
+      whole,
+      after_is,
+      e,
+      encoded-append p part (drop n rest),
+      encoded-append p after (drop n rest),
+      append_assoc x (encoded p after) (encoded p (drop n rest)),
+    )
