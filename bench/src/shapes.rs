@@ -95,7 +95,9 @@ fn push_urls(table: &mut Table) {
     for (name, make) in &shapes[..3] {
         let calls = (ours::pieces as Call, theirs::pieces as Call);
         table.push(format!("{name} pieces summed"), *make, calls);
-        table.push(format!("{name} pieces"), *make, calls).is_timed_with_room = true;
+        table
+            .push(format!("{name} pieces"), *make, calls)
+            .is_timed_with_room = true;
     }
     for (name, make) in shapes {
         push(table, format!("{name} decode summed"), make, summed, all);

@@ -14,8 +14,8 @@ mod buffer;
 mod sum;
 
 use buffer::Buffer;
-use data_url::escapes::{Piece, Pieces};
 use data_url::DataUrl;
+use data_url::escapes::{Piece, Pieces};
 use data_url::forgiving_base64::{Decoder, decode_to_vec};
 use data_url::mime::Mime;
 use std::alloc::Global;

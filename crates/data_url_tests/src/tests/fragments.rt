@@ -23,7 +23,10 @@ const FRAGMENTS: [(&str, &str); 6] = [
         "x%20y%22%3C%3E%60%7F%E2%82%AC%41%#",
     ),
     ("\t\r\n\t", ""),
-    ("letters alone, without spaces_and-so-on", "letters%20alone,%20without%20spaces_and-so-on"),
+    (
+        "letters alone, without spaces_and-so-on",
+        "letters%20alone,%20without%20spaces_and-so-on",
+    ),
     ("\0\u{1f} ~\u{10348}", "%00%1F%20~%F0%90%8D%88"),
 ];
 
@@ -40,7 +43,11 @@ fn encode_in(
         let (output, _) = room.split_at_mut(size.min(MOST));
         let Encoded { read, len } = encode_fragment(rest, output);
         let (front, untouched) = output.split_at(len.min(output.len()));
-        assert_that(rt, "output", untouched.iter().all(|byte| *byte == UNTOUCHED));
+        assert_that(
+            rt,
+            "output",
+            untouched.iter().all(|byte| *byte == UNTOUCHED),
+        );
         assert_that(rt, "further", (read > 0) | rest.is_empty());
         assert_that(rt, "all", (read == rest.len()) | (size / 3 < rest.len()));
         bytes.extend_from_slice(front)?;
@@ -51,12 +58,7 @@ fn encode_in(
 }
 
 /// Asserts that a fragment is encoded so, at once and in parts of each length.
-fn assert_encoded(
-    rt: &impl Abort,
-    alloc: Global,
-    text: &str,
-    encoded: &str,
-) -> Result<(), Fail> {
+fn assert_encoded(rt: &impl Abort, alloc: Global, text: &str, encoded: &str) -> Result<(), Fail> {
     let url = format!(in alloc; "data:,#{text}x")?;
     let decoded = DataUrl::process(alloc, url.as_str())?;
     if let Ok(Some(fragment)) = decoded.decode(|_: &[u8]| -> Result<(), Infallible> { Ok(()) }) {
@@ -85,7 +87,13 @@ fn short_fragments(rt: HostRuntime) -> Result<(), Fail> {
 
 #[test]
 fn long_fragments(rt: HostRuntime) -> Result<(), Fail> {
-    for (part, encoded) in [("abcdefg", "abcdefg"), ("\u{e9}`", "%C3%A9%60"), ("\ta", "a")].as_slice() {
+    for (part, encoded) in [
+        ("abcdefg", "abcdefg"),
+        ("\u{e9}`", "%C3%A9%60"),
+        ("\ta", "a"),
+    ]
+    .as_slice()
+    {
         let text = part.repeat(rt.alloc(), 300)?;
         let wanted = encoded.repeat(rt.alloc(), 300)?;
         assert_encoded(&rt, rt.alloc(), text.as_str(), wanted.as_str())?;
