@@ -170,9 +170,6 @@ where
             (state_of self.new) }
     {
         let mut at = self.read_blocks(text)?;
-        if at == text.len() {
-            return Ok((at, None));
-        }
         let mut groups = HeldGroups::new();
         while at < text.len() {
             match self.state.take_some(&text[at..], &mut groups) {
@@ -262,6 +259,7 @@ where
     }
 
     /// Ends the text as `finish` does. The decoder must not be fed or finished after that.
+    #[inline(always)]
     pub(crate) fn end(&mut self) -> Result<(), DecodeError<E>>
         requires callable { F.IsAlwaysCallable (state_of self.old).closure }
         requires going { (state_of self.old).failed ≡ false }
