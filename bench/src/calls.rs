@@ -116,7 +116,7 @@ pub fn decode(text: &[u8], out: &mut [u8]) -> usize {
     }
 }
 
-/// The crate has no pieces that a caller asks for, so this is `decode`. What has no room is not kept.
+/// The crate has no `Pieces`. This is `decode`, with a closure that adds its pieces up, and keeps them while they fit.
 #[allow(dead_code)]
 pub fn pieces(text: &[u8], out: &mut [u8]) -> usize {
     let Ok(url) = DataUrl::process(text_of(text)) else {

@@ -69,6 +69,17 @@ fn letters_url<const LEN: usize>(numbers: &mut Numbers) -> Vec<u8> {
     plain_url(&escaped(numbers, LEN, 0))
 }
 
+/// Icons through `Pieces`, and the same beside the crate's `decode`.
+fn push_pieces(table: &mut Table, icons: &[(&str, Make)]) {
+    let calls = (ours::pieces as Call, theirs::pieces as Call);
+    for (name, make) in icons {
+        table.push(format!("{name} pieces summed"), *make, calls);
+        table
+            .push(format!("{name} pieces"), *make, calls)
+            .is_timed_with_room = true;
+    }
+}
+
 /// URLs: icons in style sheets, pictures and fonts in base64, and plain texts.
 fn push_urls(table: &mut Table) {
     let shapes: [(&str, Make); 13] = [
@@ -92,13 +103,8 @@ fn push_urls(table: &mut Table) {
     ];
     let (summed, all) = (each!(decode_summed), each!(decode));
     let to_vec = each!(decode_to_vec);
-    for (name, make) in &shapes[..3] {
-        let calls = (ours::pieces as Call, theirs::pieces as Call);
-        table.push(format!("{name} pieces summed"), *make, calls);
-        table
-            .push(format!("{name} pieces"), *make, calls)
-            .is_timed_with_room = true;
-    }
+    // The first three are the icons.
+    push_pieces(table, &shapes[..3]);
     for (name, make) in shapes {
         push(table, format!("{name} decode summed"), make, summed, all);
         push(table, format!("{name} decode_to_vec"), make, to_vec, to_vec);

@@ -22,6 +22,9 @@ pub(crate) const UNEXPECTED_SYMBOL: u32 = 256;
 /// vector.
 const WRITTEN: usize = 256;
 
+/// A fragment of at most this many bytes is encoded by one call.
+const SHORT_FRAGMENT: usize = 256;
+
 /// How many bytes the length of a part has.
 const LENGTH: usize = 8;
 
@@ -256,10 +259,10 @@ pub(crate) fn fragment(text: &str) -> String {
     unsafe { String::from_utf8_unchecked(bytes) }
 }
 
-/// How much room is made at once for the rest of a fragment: for all of a short one, whatever its bytes are, and for the
-/// bytes of a long one as they are.
+/// How much room is made for the rest of a fragment of this length. A short one fits whatever its bytes are. A long one
+/// fits if each byte is written as it is. The library stops if fewer than three bytes of room are left, hence the 2.
 fn room_for_fragment(len: usize) -> usize {
-    (3 * len.min(WRITTEN)).max(len)
+    (3 * len.min(SHORT_FRAGMENT)).max(len + 2)
 }
 
 /// How many bytes an output needs for all bytes of a text of base64 of this length, so that one call writes them.

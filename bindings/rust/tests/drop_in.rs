@@ -75,12 +75,17 @@ fn fragments_borrow_the_text() {
 #[test]
 fn fragments_of_any_length() {
     for (part, encoded) in [("a", "a"), ("\u{e9}", "%C3%A9"), ("a b\t`", "a%20b%60")] {
-        for count in [1, 84, 85, 86, 127, 128, 129, 255, 256, 257, 5000, 70_000] {
+        for count in [
+            1, 84, 85, 86, 128, 255, 256, 257, 765, 766, 767, 768, 70_000,
+        ] {
             let url = format!("data:,#{}x", part.repeat(count));
             let fragment = fragment_of(&url).unwrap().to_percent_encoded();
             assert_eq!(fragment, format!("{}x", encoded.repeat(count)));
         }
     }
+    let letters = format!("data:,#{}", "a".repeat(70_000));
+    let encoded = fragment_of(&letters).unwrap().to_percent_encoded();
+    assert!(encoded.capacity() < 70_100);
 }
 
 #[test]

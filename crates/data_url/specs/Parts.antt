@@ -1,4 +1,4 @@
--- Bodies, base64 and fragments in parts: what a call writes to its output, and what it leaves for the next call.
+-- Bodies, base64 and fragments in parts: what a call writes to its output, and what it leaves for the next.
 use Rattle.std.specs.List.{list_all}
 use Rattle.std.specs.Prelude.{◌%◌, ◌<◌, ◌==◌, ◌||◌}
 use Rattle.std.specs.Prelude.{◌&&◌, ◌*◌, ◌+◌, ◌++◌, ◌-◌, ◌/◌, ◌≡◌, ◌≤◌, Bool, Err, List, MatchBool, MatchOption, Ok}
@@ -46,12 +46,12 @@ pub record HasParts (s : LeftOver) (symbols : List ℕ) (pending padding : ℕ) 
   pub padding_is : s.padding ≡ padding
   pub good : is_left_over symbols pending padding ≡ true
 
--- how many bytes of a text are decoded into an output after symbols that are left over: all, if the bytes of their
--- groups surely fit, with those that end the text. Otherwise so many that, if all are symbols, the
--- last ends a group.
+-- how many bytes of a text of base64 are decoded into an output, after symbols that are left over. All
+-- are, if the output has room for as many symbols, with the bytes that end the text. Otherwise decoding
+-- stops where the last group that fits would end, if every byte were a symbol.
 abbrev pub IsFitting : ℕ → ℕ → ℕ → ℕ → Type 0
-IsFitting pending len room read =
-    MatchBool (nat_le (pending + len) (room / 3 * 4 + room % 3 + 1)) (read ≡ len) (read ≡ room / 3 * 4 - pending)
+IsFitting pending len room read = MatchBool (nat_le (pending + len) (room / 3 * 4 + room % 3 + 1))
+    (read ≡ len) (read ≡ room / 3 * 4 - pending)
 
 -- what the text u leaves over; or the kind of its first fault
 abbrev pub IsFed : List ℕ → Result LeftOver Kind → Type 0
@@ -128,10 +128,12 @@ pub record WritesPart (b : Body) (before after : List ℕ) (r : Part) : Type 0 w
 -- Fragments
 
 -- the start of a fragment was written to an output, encoded, and the rest of the fragment follows it.
--- At least one byte is read, if the text has one and the output has room for three.
+-- At least one byte is read, if the text has one and the output has room for three. The text is read
+-- to its end, or until the output has room for fewer than three bytes.
 pub record EncodesPart (text before after : List ℕ) (r : Encoded) : Type 0 where
   pub within : r.read ≤ length text
   pub goes : 3 ≤ length before → 0 < length text → 0 < r.read
+  pub stops : r.read < length text → length before < r.len + 3
   pub bytes : List ℕ
   pub wrote : WritesFront bytes before after r.len
   pub rest_is : encoded_fragment text ≡ bytes ++ encoded_fragment (drop r.read text)

@@ -47,8 +47,8 @@ where
     Ok(())
 }
 
-/// Calls a closure with the prefix of a body and with the bytes after it, at most a number of these, as `take_within` does. Returns
-/// the closure's error.
+/// Calls a closure with the prefix of a body, if it is not empty, and then with the bytes after it, at most `most` of these, as
+/// `take_within` does. Returns the first error of the closure.
 pub(crate) fn take_after<F, E>(
     prefix: &[u8],
     walk: &mut Walk<'_>,

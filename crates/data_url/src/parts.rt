@@ -1,5 +1,5 @@
-//! Bodies, base64 and fragments in parts: each call writes what comes next to an output that the caller lends, and returns plain values
-//! from which the next call goes on. Nothing is allocated, and no closure is called.
+//! Bodies, base64 and fragments in parts. Each call writes what comes next to an output that the caller lends, and
+//! returns plain values from which the next call goes on. Nothing is allocated, and no closure is called.
 //!
 //! For callers that cannot pass a closure, or that stop between two parts and go on later: a receiver that is full, a reader, C.
 

@@ -30,7 +30,7 @@ impl<'a> Buffer<'a> {
         Ok(())
     }
 
-    /// Appends a piece, if there is room.
+    /// Appends a piece, if there is room. Otherwise no later piece is appended either.
     #[inline(always)]
     pub(crate) fn append_if_room(&mut self, piece: &[u8]) {
         if self.append(piece).is_err() {

@@ -85,7 +85,8 @@ FinishesPart old new before after r =
 -- the start of a fragment is encoded: status 0 if that is all of it, and otherwise 11. An output of
 -- less than three bytes gives status 5.
 pub record EncodesFragment (text before after : List ℕ) (r : DataUrlFed) : Type 0 where
-  pub small : length before < 3 → DoesNothing text text before after × (r.status ≡ 5) × (r.len ≡ 0) × (r.read ≡ 0)
+  pub small : length before < 3
+      → DoesNothing text text before after × (r.status ≡ 5) × (r.len ≡ 0) × (r.read ≡ 0)
   pub encodes : 3 ≤ length before → EncodesPart text before after (record { read = r.read; len = r.len })
   pub all : 3 ≤ length before → r.read ≡ length text → r.status ≡ 0
   pub more : 3 ≤ length before → r.read < length text → r.status ≡ 11

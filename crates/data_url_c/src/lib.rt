@@ -11,11 +11,11 @@
 //! | 2 | no comma before the fragment | 0 |
 //! | 3 | allocation failed | 0 |
 //! | 4 | the text is not UTF-8 | 0 |
-//! | 5 | the output is too small, and unchanged | that is needed; 0 from the calls in parts |
+//! | 5 | the output is too small, and unchanged | that is needed; 0 from those whose names end in `_next` or `_feed` |
 //! | 6 | the text is not a MIME type | 0 |
 //! | 7 | the URL has no fragment | 0 |
 //! | 8, 9, 10, 256 and a byte | base64 with padding that does not fit, a lone symbol, a symbol after padding, an unexpected byte | of the bytes before the fault, at the start of the output |
-//! | 11 | the body or the fragment goes on (`dataurl_body_next`, `dataurl_fragment_next`) | of the part that was written |
+//! | 11 | the body or fragment goes on (from `_next`) | of the part that was written |
 //! | 12 | a state that no call returned | 0 |
 //!
 //! The output after the bytes of a result is unchanged; if the length is 0, all of it is.
@@ -195,8 +195,10 @@ pub extern "C" fn dataurl_body_next(
 }
 
 /// Percent-encodes the start of a fragment into the output, without allocation
-/// ([URL Standard, section 4.4, fragment state](https://url.spec.whatwg.org/#fragment-state)). The text is what follows the `#`, and
-/// may be any bytes. With status 11 the fragment goes on, and what is left of the text is encoded next.
+/// ([URL Standard, section 4.4, fragment state](https://url.spec.whatwg.org/#fragment-state)). The text is what follows
+/// the `#`, and may be any bytes. Returns how many bytes were read and written, with status 0 if the whole text was
+/// read. With status 11 the fragment goes on: encode what is left of the text next. The output needs three bytes: with
+/// fewer, the status is 5, and nothing is read or written.
 #[unsafe(no_mangle)]
 pub extern "C" fn dataurl_fragment_next(text: &[u8], out: &mut [u8]) -> DataUrlFed
     ensures { EncodesFragment text.now out.old out.new result }

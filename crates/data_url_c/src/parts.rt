@@ -27,15 +27,15 @@ pub struct DataUrlBase64 {
     pub padding: u8,
 }
 
-/// What feeding a part returns.
+/// What feeding a part of base64, or encoding a part of a fragment, returns.
 #[repr(C)]
 #[derive(Clone, Copy)]
 pub struct DataUrlFed {
-    /// How the call ended: 0 if the part has no fault.
+    /// How the call ended: 0 if it succeeded, 11 if a fragment goes on.
     pub status: u32,
     /// How many bytes were written to the front of the output.
     pub len: usize,
-    /// How many bytes of the part were read.
+    /// How many bytes of the part were read, from its start.
     pub read: usize,
 }
 
@@ -93,7 +93,7 @@ fn keep(state: &mut DataUrlBase64, left_over: Result<LeftOver, InvalidBase64Deta
     }
 }
 
-/// Feeds a part of a text. If the output is too short for the whole part, reads as much as surely fits.
+/// Feeds a part of a text. If the output is too small for the whole part, reads a part of it.
 pub(crate) fn feed(state: &mut DataUrlBase64, input: &[u8], out: &mut [u8]) -> DataUrlFed
     ensures { FeedsPart state.old state.new input.now out.old out.new result }
 {

@@ -295,7 +295,7 @@ module _ {F E : Type 0} (step : F → List ℕ → Result (Unit {0}) E → F →
     all = λ l. omega (arith, l, i.place_is, ap length none);
   }
 
-  -- the closure returned an error for it
+  -- the closure returned an error for the prefix
   pub prefix_refused : {f g : F} {text bytes : List ℕ} {w : Walk} {e : E} (most : ℕ) → IsBodyPrefix text bytes w
       → 1 ≤ length bytes → step f bytes (Err e) g
       → TakesUntil step f (walk_at_start text) (length bytes + most) e g

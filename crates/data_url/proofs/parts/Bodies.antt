@@ -109,10 +109,11 @@ module _ {F : Type 0} {step : F → List ℕ → Result (Unit {0}) Infallible �
       → (4 * length (joined_pieces d.run) ≤ 3 * (s.pending + most)) × LeavesPart s tail most (joined_pieces d.run) s' r
   part_gave d = match_at_none _ _ _ (no_refusal (refusal d.run)) d.gave
 
--- an output of four bytes is enough to go on
+-- of an output of four bytes or more, at least one byte is decoded, if there is one
 fitting_some : (pending len room n : ℕ) → IsFitting pending len room n → pending ≤ 3 → 4 ≤ room → min 1 len ≤ n
 fitting_some pending len room n h few l = grind (arith)
 
+-- an output of four bytes is enough to go on
 pub leaves_at : (s s' : LeftOver) (tail : List ℕ) (pending most room : ℕ) (bytes : List ℕ) (stop : Stop) → pending ≤ 3
     → IsFitting pending (length tail) room most → LeavesAt true s tail (min 1 (length tail) ≤ most) bytes s' (Ok stop)
     → LeavesAt true s tail (4 ≤ room) bytes s' (Ok stop)

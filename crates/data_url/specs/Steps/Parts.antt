@@ -101,7 +101,8 @@ LeavesAt flag s tail Could bytes s' (Err kind) = body_after flag s tail ≡ Bad 
 -- the same, for a decoder that calls a closure which returns no error
 abbrev pub LeavesPart : {E : Type 0} → LeftOver → List ℕ → ℕ → List ℕ → LeftOver → Result Stop (DecodeError E)
     → Type 0
-LeavesPart s tail most bytes s' (Ok stop) = LeavesAt true s tail (min 1 (length tail) ≤ most) bytes s' (Ok stop)
+LeavesPart s tail most bytes s' (Ok stop) =
+    LeavesAt true s tail (min 1 (length tail) ≤ most) bytes s' (Ok stop)
 LeavesPart s tail most bytes s' (Err (InvalidBase64 kind)) =
     LeavesAt true s tail (min 1 (length tail) ≤ most) bytes s' (Err kind)
 LeavesPart s tail most bytes s' (Err (WriteError e)) = ⊥

@@ -78,9 +78,9 @@ impl<'a> Cursor<'a> {
         }
     }
 
-    /// The bytes before the first marked byte, at most a number of them. The walk goes there. If the first byte is a `%`, it is read by
-    /// itself, so that the bytes after its escape can be packed: it is a block. The look at another first byte does not count
-    /// against the bound.
+    /// The bytes before the first marked byte, at most `most` of them. The walk goes to the place after them. If the first byte
+    /// is a `%`, it is read by itself, so that the bytes after its escape can be packed: it is a block. The look at another
+    /// first byte does not count against the bound.
     #[inline(always)]
     pub(super) fn next_prefix(&mut self, most: usize) -> &'a [u8]
         requires start { self.old.place ≡ 0 }

@@ -25,8 +25,8 @@ impl<'a> Model for Walk<'a> {
 }
 
 impl<'a> Walk<'a> {
-    /// Returns the bytes of a text before its first mark, at most a number of them, which are bytes of the body, and the walk after
-    /// them.
+    /// Returns the bytes of a text before its first mark, at most `most` of them, and the walk after them. They are bytes of
+    /// the body.
     #[inline(always)]
     pub(crate) fn after_prefix(text: &'a [u8], most: usize) -> (&'a [u8], Self)
         ensures prefix { IsBodyPrefix text.entry.now result.0.now result.1 }

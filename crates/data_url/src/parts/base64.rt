@@ -26,9 +26,11 @@ impl LeftOver {
     /// left over. Writes the bytes of the groups of four symbols that are complete then to the start of the output, and
     /// leaves the rest of the output as it is.
     ///
-    /// It reads the whole part if its bytes surely fit the output, with those that `finish` would add. Otherwise it reads as
-    /// many bytes as give whole groups that fit, if all of them are symbols: with an output of three bytes or more, at least
-    /// one. What is left of the part is fed next.
+    /// How much is read depends on lengths alone, as if every byte were a symbol. The whole part is read if the symbols
+    /// left over and the bytes of the part are together at most `output.len() / 3 * 4 + output.len() % 3 + 1`: then the
+    /// output has room for all their bytes, with those that `finish` would write. Otherwise
+    /// `output.len() / 3 * 4` bytes are read, less the symbols left over. A part of symbols alone then ends with a
+    /// group. With an output of three bytes or more, at least one byte is read. Feed what is left of the part next.
     ///
     /// Returns `InvalidBase64Details` for the first fault among the bytes that were read, after the bytes of the groups
     /// before it: a byte that is neither white space nor `=` nor a symbol, or a symbol after a `=`.

@@ -15,13 +15,16 @@ pub struct Encoded {
     pub len: usize,
 }
 
-/// Writes the start of a fragment to the start of an output, as the URL parser leaves it ([URL Standard, section 4.4,
-/// fragment state](https://url.spec.whatwg.org/#fragment-state)): without tabs and newlines, each byte of the fragment
-/// percent-encode set as `%` and two upper-case hexadecimal digits. The rest of the output stays as it is.
+/// Writes the start of a fragment to the start of an output, percent-encoded as the URL parser leaves it ([URL
+/// Standard, section 4.4, fragment state](https://url.spec.whatwg.org/#fragment-state)). Tabs and newlines are dropped.
+/// Each byte of the fragment percent-encode set is written as `%` and two upper-case hexadecimal digits. Any other
+/// byte, `%` too, is written as it is. The rest of the output does not change.
 ///
-/// It reads until the text ends or the output has room for less than three bytes. What is left of the text is encoded
-/// next. An output of three bytes or more is enough to go on, and one that is three times as long as the text is enough
-/// for all of it.
+/// The text is what follows the `#`, and may be any bytes. It is read to its end, or until the output has room for
+/// fewer than three bytes. With an output of three bytes or more, at least one byte is read. An output three times as
+/// long as the text is enough for all of it. Encode what is left of the text next.
+///
+/// Returns how many bytes of the text were read, and how many were written.
 pub fn encode_fragment(text: &[u8], output: &mut [u8]) -> Encoded
     ensures { EncodesPart text.now output.old output.new result }
 {

@@ -32,8 +32,9 @@ pub(super) fn fault_of(error: &DecodeError<Infallible>) -> InvalidBase64Details
     }
 }
 
-/// Returns how many bytes of a text of base64 are decoded into an output, after a number of symbols that are left over: all, if their
-/// bytes surely fit, with those that end the text. Otherwise so many that, if all are symbols, the last of them ends a group.
+/// Returns how many bytes of a text of base64 are decoded into an output, after symbols that are left over. All are, if
+/// the output has room for as many symbols, with the bytes that end the text. Otherwise decoding stops where the last
+/// group that fits would end, if every byte were a symbol.
 pub(super) fn fitting_len(pending: usize, text: &[u8], output: &[u8]) -> usize
     requires { pending ≤ 3 }
     ensures fitting { IsFitting pending (length text.now) (length output.now) result }
@@ -70,7 +71,7 @@ fn write_plain(tail: &[u8], output: &mut [u8]) -> (usize, Result<Stop, InvalidBa
     (len, Ok(Stop::Paused(walk.place())))
 }
 
-/// Decodes the next bytes of a body of base64 into an output, after what is left over. An output of one byte gets nothing, since
+/// Decodes the next bytes of a body of base64 into an output, after what is left over. An output of fewer than two bytes gets nothing, since
 /// the last bytes, of which there are up to two, have to fit.
 fn write_base64(
     left_over: &mut LeftOver,
