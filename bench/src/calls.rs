@@ -174,6 +174,17 @@ pub fn mime(text: &[u8], _: &mut [u8]) -> usize {
     }
 }
 
+#[allow(dead_code)]
+pub fn mime_charset(text: &[u8], _: &mut [u8]) -> usize {
+    match text_of(text).parse::<Mime>() {
+        Ok(mime) => {
+            let charset = mime.get_parameter("charset").unwrap_or("");
+            charset.len() + usize::from(mime.matches("text", "html"))
+        }
+        Err(_) => REFUSED,
+    }
+}
+
 pub fn mime_printed(text: &[u8], out: &mut [u8]) -> usize {
     match text_of(text).parse::<Mime>() {
         Ok(mime) => show(mime.to_string().as_bytes(), out),

@@ -3,8 +3,8 @@
 use crate::shapes::push_shapes;
 use crate::texts::{
     base64, base64_with_escapes, escaped, fragment, growing_names, indented, lone_percents,
-    names_that_end_alike, numbered_names, quoted, quoted_letters, quoted_quotes, raw_svg, svg, url,
-    wrapped, Lines, Numbers,
+    names_that_end_alike, numbered_names, quoted, quoted_letters, quoted_quotes, raw_svg, svg,
+    type_in_use, url, wrapped, Lines, Numbers,
 };
 use crate::{ours, theirs, Call};
 use std::collections::HashSet;
@@ -430,7 +430,7 @@ fn push_short_bindings(table: &mut Table) {
     fn with(header: &str, numbers: &mut Numbers) -> Vec<u8> {
         url(header, &base64(numbers, 20, Lines::NONE))
     }
-    let headers: [(&str, fn(&mut Numbers) -> Vec<u8>); 9] = [
+    let headers: [(&str, fn(&mut Numbers) -> Vec<u8>); 13] = [
         ("empty", |numbers| with(HEADERS[0].1, numbers)),
         ("type", |numbers| with(HEADERS[1].1, numbers)),
         ("charset", |numbers| with(HEADERS[2].1, numbers)),
@@ -443,6 +443,12 @@ fn push_short_bindings(table: &mut Table) {
             with("text/html;charset=\"utf-8\";base64", numbers)
         }),
         ("five", |numbers| with(HEADERS[5].1, numbers)),
+        ("only base64", |numbers| with(";base64", numbers)),
+        ("space", |numbers| with("text/html; charset=utf-8", numbers)),
+        ("two", |numbers| {
+            with("text/html;charset=utf-8;name=a", numbers)
+        }),
+        ("utf8", |numbers| with("image/svg+xml;utf8", numbers)),
         ("upper case", |numbers| {
             let text = with("image/png;base64", numbers);
             [b"DATA:", &text[5..]].concat()
@@ -488,6 +494,29 @@ fn push_text_bindings(table: &mut Table) {
         let row = table.push(format!("bindings mime {kind} from_str"), make, calls);
         row.shows_ours = bindings::mime_printed;
         row.shows_theirs = theirs::mime_printed;
+    }
+    for (kind, parameters) in [
+        ("bare", ""),
+        ("UTF-8", "; charset=UTF-8"),
+        ("boundary", "; boundary=\"----=_Part_123\"; charset=utf-8"),
+    ] {
+        let make = move |numbers: &mut Numbers| type_in_use(numbers, parameters);
+        let calls: (Call, Call) = (bindings::mime, theirs::mime);
+        let row = table.push(format!("bindings mime {kind} from_str"), make, calls);
+        row.shows_ours = bindings::mime_printed;
+        row.shows_theirs = theirs::mime_printed;
+        let calls: (Call, Call) = (bindings::mime_printed, theirs::mime_printed);
+        table.push(
+            format!("bindings mime {kind} from_str, to_string"),
+            make,
+            calls,
+        );
+        let calls: (Call, Call) = (bindings::mime_charset, theirs::mime_charset);
+        table.push(
+            format!("bindings mime {kind} from_str, get_parameter"),
+            make,
+            calls,
+        );
     }
     for (len, size) in [(20, "20"), SIZES[0], SIZES[1]] {
         table.push(

@@ -5,6 +5,79 @@ pub struct Numbers(u64);
 
 const ALPHABET: &[u8; 64] = b"ABCDEFGHIJKLMNOPQRSTUVWXYZabcdefghijklmnopqrstuvwxyz0123456789+/";
 
+/// MIME types that are in use.
+const TYPES: [&str; 64] = [
+    "text/html",
+    "text/css",
+    "text/plain",
+    "text/csv",
+    "text/javascript",
+    "text/markdown",
+    "text/calendar",
+    "text/vcard",
+    "text/x-python",
+    "text/xml",
+    "text/event-stream",
+    "text/cache-manifest",
+    "text/tab-separated-values",
+    "text/x-c",
+    "image/png",
+    "image/jpeg",
+    "image/gif",
+    "image/webp",
+    "image/svg+xml",
+    "image/avif",
+    "image/bmp",
+    "image/tiff",
+    "image/x-icon",
+    "image/vnd.microsoft.icon",
+    "image/heic",
+    "image/x-canon-cr2",
+    "font/woff",
+    "font/woff2",
+    "font/ttf",
+    "font/otf",
+    "audio/mpeg",
+    "audio/ogg",
+    "audio/wav",
+    "audio/aac",
+    "audio/x-flac",
+    "audio/midi",
+    "video/mp4",
+    "video/webm",
+    "video/quicktime",
+    "video/x-matroska",
+    "application/json",
+    "application/ld+json",
+    "application/pdf",
+    "application/xml",
+    "application/xhtml+xml",
+    "application/atom+xml",
+    "application/zip",
+    "application/gzip",
+    "application/wasm",
+    "application/octet-stream",
+    "application/x-www-form-urlencoded",
+    "application/x-tar",
+    "application/x-7z-compressed",
+    "application/rtf",
+    "application/epub+zip",
+    "application/msword",
+    "application/vnd.ms-excel",
+    "application/sql",
+    "application/vnd.openxmlformats-officedocument.wordprocessingml.document",
+    "application/vnd.oasis.opendocument.text",
+    "application/vnd.google-earth.kml+xml",
+    "application/vnd.debian.binary-package",
+    "application/x-shellscript",
+    "message/rfc822",
+];
+
+/// One of these MIME types, with a text after it.
+pub fn type_in_use(numbers: &mut Numbers, parameters: &str) -> Vec<u8> {
+    format!("{}{parameters}", TYPES[numbers.below(TYPES.len())]).into_bytes()
+}
+
 impl Numbers {
     pub fn new(seed: u64) -> Self {
         Numbers(seed.wrapping_mul(0x9E37_79B9_7F4A_7C15))

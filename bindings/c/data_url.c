@@ -9,7 +9,9 @@ struct data_url_answer dataurl_mime(bytes url, size_t len, uint8_t *out, size_t 
 struct data_url_answer dataurl_fragment(bytes url, size_t len, uint8_t *out, size_t room);
 struct data_url_answer dataurl_type(bytes text, size_t len, uint8_t *out, size_t room);
 struct data_url_answer dataurl_base64(bytes text, size_t len, uint8_t *out, size_t room);
+struct data_url_answer dataurl_type_parts(bytes text, size_t len, uint8_t *out, size_t room);
 struct data_url_opened dataurl_open(bytes url, size_t len, uint8_t *out, size_t room);
+struct data_url_opened dataurl_open_parts(bytes url, size_t len, uint8_t *out, size_t room);
 struct data_url_answer dataurl_body_next(
     struct data_url_body_state *state, bytes tail, size_t len, uint8_t *out, size_t room);
 struct data_url_fed dataurl_base64_feed(
@@ -44,6 +46,14 @@ struct data_url_answer data_url_base64(const void *base64, size_t len, void *out
 
 struct data_url_opened data_url_open(const void *url, size_t len, void *out, size_t room) {
     return dataurl_open(text(url, len), len, output(out, room), room);
+}
+
+struct data_url_opened data_url_open_parts(const void *url, size_t len, void *out, size_t room) {
+    return dataurl_open_parts(text(url, len), len, output(out, room), room);
+}
+
+struct data_url_answer data_url_type_parts(const void *type, size_t len, void *out, size_t room) {
+    return dataurl_type_parts(text(type, len), len, output(out, room), room);
 }
 
 struct data_url_answer data_url_body_next(

@@ -27,6 +27,8 @@
  * IN PARTS. A long body goes to a file in a few kilobytes, and nothing is allocated for it:
  *
  *     data_url_open           reads the header of a URL: its MIME type, whether its body is base64, where its tail begins
+ *     data_url_open_parts     the same, with the MIME type in parts: type, subtype, each name and each value
+ *     data_url_type_parts     a MIME type, parsed, in such parts
  *     data_url_body_next      the next bytes of a body, from the tail
  *     data_url_base64_feed    the next part of a text of base64
  *     data_url_base64_finish  the end of that text
@@ -94,6 +96,32 @@
  *         return status == DATA_URL_DONE && !ferror(stdin) && fflush(stdout) == 0 && !ferror(stdout) ? 0 : 1;
  *     }
  *
+ * This program writes the type, the subtype and the charset of the Content-Type that is its argument:
+ *
+ *     #include "data_url.h"
+ *     #include <stdio.h>
+ *     #include <string.h>
+ *
+ *     static void print(const char *what, struct data_url_part part) {
+ *         printf("%s: %.*s\n", what, (int)part.len, part.text);
+ *     }
+ *
+ *     int main(int count, char **arguments) {
+ *         const char *type = count > 1 ? arguments[1] : "";
+ *         char room[1024];
+ *         const void *parts = room;
+ *         struct data_url_answer got = data_url_type_parts(type, strlen(type), room, sizeof room);
+ *         if (got.status != DATA_URL_DONE) return 1;
+ *         print("type", data_url_part_next(&parts, &got.len));
+ *         print("subtype", data_url_part_next(&parts, &got.len));
+ *         while (got.len > 0) {
+ *             struct data_url_part name = data_url_part_next(&parts, &got.len);
+ *             struct data_url_part value = data_url_part_next(&parts, &got.len);
+ *             if (name.len == 7 && memcmp(name.text, "charset", 7) == 0) print("charset", value);
+ *         }
+ *         return fflush(stdout) == 0 ? 0 : 1;
+ *     }
+ *
  * TEXTS. A text is `len` bytes at a pointer. It need not end with a NUL, and may contain one. Any bytes are allowed. The
  * pointer may be null if `len` is 0. The text is only read, and only until the call returns.
  *
@@ -107,11 +135,26 @@
  * were written. A body is never longer than its URL, and decoded base64 never longer than its text.
  *
  * INVALID BASE64. The bytes before the first fault are written, with the status of the fault. data_url_fragment writes none.
- * data_url_mime and data_url_open do not decode the body and so find no fault in it.
+ * data_url_mime, data_url_open and data_url_open_parts do not decode the body and so find no fault in it.
  *
- * MEMORY AND THREADS. The library keeps no pointer, and no state but which instructions the processor has. So calls may run on
- * many threads at once. The calls for whole texts and data_url_open use malloc, realloc and free, and free everything before
- * they return; the three other calls use none of them. Do not call the library from a signal handler.
+ * MEMORY AND THREADS. The library keeps no pointer, and no state but which instructions the processor has. So calls
+ * may run on many threads at once. What a call allocates, with malloc and realloc, it frees before it returns. Do not
+ * call the library from a signal handler.
+ *
+ * ALLOCATIONS. These are the calls of malloc and realloc for a short text, whose MIME type has no parameter or one. A
+ * header without a MIME type counts as one with a parameter, which is charset=US-ASCII.
+ *
+ *     data_url_body_next, data_url_base64_feed, data_url_base64_finish    0
+ *     data_url_open_parts, data_url_type_parts                            0
+ *     data_url_base64                                                     1
+ *     data_url_body                                                       2, or 5 with a parameter
+ *     data_url_mime, data_url_type, data_url_open, data_url_fragment      3, or 6 with a parameter
+ *
+ * The first three never allocate. The next two do for a MIME type with more than 8 parameters, 20 times for 9 short
+ * ones. All calls that read the header of a URL take one more if it has a '?', a tab, a newline or a byte to
+ * percent-encode, and two if such a header is longer than 128 bytes and grows. data_url_body takes more if the room is
+ * less than the length of the tail. The other calls take more for a longer text, for more parameters, and where a
+ * value or a fragment is escaped. data_url_base64 and data_url_fragment take one less for an empty result.
  *
  * PLATFORMS. Linux on x86-64 (level x86-64-v2 or higher) and aarch64. C99, C++11 and later. The library for x86-64 has each call
  * for x86-64-v2 and for x86-64-v3. The first call asks the processor which of them it can run.
@@ -226,10 +269,11 @@ struct data_url_answer data_url_type(const void *type, size_t len, void *out, si
  * fault of base64, with the bytes before it. */
 struct data_url_answer data_url_base64(const void *base64, size_t len, void *out, size_t room);
 
-/* What data_url_open returns. */
+/* What data_url_open and data_url_open_parts return. */
 struct data_url_opened {
     uint32_t status;
-    /* How many bytes the printed MIME type has. With DATA_URL_OUTPUT_TOO_SMALL it was not written. 0 if there is no URL. */
+    /* How many bytes the MIME type has, printed or in parts. With DATA_URL_OUTPUT_TOO_SMALL it was not written. 0 if
+     * there is no URL. */
     size_t len;
     /* The tail, which is the text after the comma: where it begins in the URL, and how many bytes it has. They are set with
      * DATA_URL_DONE and DATA_URL_OUTPUT_TOO_SMALL, and 0 with any other status. */
@@ -245,6 +289,44 @@ struct data_url_opened {
  * out, room   receives the printed MIME type, as from data_url_mime
  * Returns what data_url_mime returns. With DATA_URL_DONE and DATA_URL_OUTPUT_TOO_SMALL the other fields are set too. */
 struct data_url_opened data_url_open(const void *url, size_t len, void *out, size_t room);
+
+/* Reads the header of a data: URL, and writes its MIME type in parts: the type, the subtype, and the name and the value of
+ * each parameter. data_url_part_next takes them one by one.
+ *
+ * url, len    the URL
+ * out, room   receives the parts; 256 bytes are enough for nearly all
+ * Returns what data_url_open returns; its len is that of the parts together. */
+struct data_url_opened data_url_open_parts(const void *url, size_t len, void *out, size_t room);
+
+/* Parses a MIME type, and writes it in parts, as data_url_open_parts does.
+ *
+ * type, len   the MIME type
+ * out, room   receives the parts
+ * Returns what data_url_type returns; its len is that of the parts together. */
+struct data_url_answer data_url_type_parts(const void *type, size_t len, void *out, size_t room);
+
+/* A part of a MIME type: a text in UTF-8, which does not end with a NUL. */
+struct data_url_part {
+    const char *text;
+    size_t len;
+};
+
+/* Takes the next part from what data_url_open_parts or data_url_type_parts wrote. Each comes after its length, which takes
+ * eight bytes, the lowest first.
+ *
+ * parts, len  the parts that are left, and how many bytes they have together; the part is taken from them. There is a next part
+ *             as long as len is not 0. Parts come in pairs: the type and the subtype, then each name and its value. */
+static inline struct data_url_part data_url_part_next(const void **parts, size_t *len) {
+    const uint8_t *bytes = (const uint8_t *)*parts;
+    struct data_url_part part;
+    size_t at;
+    part.len = 0;
+    for (at = 8; at > 0; at--) part.len = part.len << 8 | bytes[at - 1];
+    part.text = (const char *)bytes + 8;
+    *parts = bytes + 8 + part.len;
+    *len -= 8 + part.len;
+    return part;
+}
 
 /* How far a body was decoded. It begins as DATA_URL_BODY_STATE(opened.is_base64). */
 struct data_url_body_state {

@@ -2,7 +2,7 @@
 """Writes each program in C that the header and the documents show to a file of its own: programs.py FOLDER
 
 The files are NUMBER.c, and beside each NUMBER.in, its input, and NUMBER.out, what it has to write. NUMBER.long is an input of some
-megabytes, and NUMBER.long_out what it has to write for that.
+megabytes, and NUMBER.long_out what it has to write for that. NUMBER.argument is its argument, if it takes one.
 """
 import pathlib
 import re
@@ -10,6 +10,7 @@ import sys
 
 HERE = pathlib.Path(__file__).resolve().parent
 URL = "data:text/plain;base64,SGVsbG8h#part"
+TYPE = 'Text/HTML; title="a\\"b"; Charset=UTF-8; charset=x'
 LONG = 400_000
 
 
@@ -29,15 +30,18 @@ def inputs_and_outputs(program):
         return "SGVs\r\nbG8h", "Hello!", "SGVs\r\nbG8h" * LONG, "Hello!" * LONG
     if "data_url_body_next" in program:
         return URL, "Hello!", "data:," + "Hello%21" * LONG, "Hello!" * LONG
+    if "data_url_type_parts" in program:
+        return "", "type: text\nsubtype: html\ncharset: UTF-8\n", "", ""
     return "", "Hello!, 6 bytes\n", "", ""
 
 
 def main(folder):
     programs = shown()
-    assert len(programs) == 5, f"{len(programs)} programs are shown"
+    assert len(programs) == 6, f"{len(programs)} programs are shown"
     for number, program in enumerate(programs):
-        texts = (program, *inputs_and_outputs(program))
-        for ending, text in zip(("c", "in", "out", "long", "long_out"), texts):
+        argument = TYPE if "arguments[1]" in program else ""
+        texts = (program, *inputs_and_outputs(program), argument)
+        for ending, text in zip(("c", "in", "out", "long", "long_out", "argument"), texts):
             pathlib.Path(folder, f"{number}.{ending}").write_bytes(text.encode())
 
 

@@ -1,5 +1,7 @@
 pub mod TokenTexts
 pub mod Items
+pub mod PartTexts
 pub mod Parsing
 pub mod FirstNames
+pub mod FewPairs
 pub mod RoundTrips

@@ -5,7 +5,7 @@ use Rattle.std.specs.Prelude.{◌≡◌, ◌≤◌, Bool, Err, List, MatchOption
 use Rattle.data_url.specs.Errors.{IsRefused}
 use Rattle.data_url.specs.Fetch.{Accepted, Bad, Good, NoComma, NoScheme, Outcome, Staged, has_base64_suffix, header_of}
 use Rattle.data_url.specs.Fetch.{mime_text, outcome, outcome_bytes, plain_body, staged, tail_of}
-use Rattle.data_url.specs.Mime.{IsRecordOf, IsWellformed}
+use Rattle.data_url.specs.Mime.{IsRecordOf, IsWellformed, Record}
 use Rattle.data_url.specs.MimeType.{record_of}
 use Rattle.data_url.specs.Run.{Call, IsRun, joined_pieces, refusal}
 use Rattle.data_url.specs.Url.{after, fragment, in_fragment_set, number_sign, percent_encoding}
@@ -43,18 +43,22 @@ fragment_text f = f.text.now
 abbrev pub IsFragmentOf : List ℕ → Option FragmentIdentifier → Type 0
 IsFragmentOf tail found = option_map fragment_text found ≡ after number_sign tail
 
--- u is the URL of the text t, which is accepted: the record of u is that of the header, and the body
--- and the fragment that the Standard defines can be read from the tail of u
-pub record IsUrlOf (t : List ℕ) (u : DataUrl) : Type 0 where
+-- the text t is accepted: the record is that of its header, and the flag says whether its body is base64. The body and the
+-- fragment that the Standard defines can be read from the tail.
+pub record IsUrlWithParts (t : List ℕ) (mime : Record) (base64 : Bool) (tail : List ℕ) : Type 0 where
   pub header : List ℕ
   pub header_is : header_of t ≡ Some header
-  pub record_is : IsRecordOf (mime_text header) (record_of (mime_of u))
-  pub wellformed : IsWellformed (record_of (mime_of u))
-  pub base64_is : is_base64 u ≡ has_base64_suffix header
-  pub tail_is : tail_of t ≡ Some (url_tail u)
-  pub staged_is : staged t ≡ Accepted (mime_text header) (url_body u)
+  pub record_is : IsRecordOf (mime_text header) mime
+  pub wellformed : IsWellformed mime
+  pub base64_is : base64 ≡ has_base64_suffix header
+  pub tail_is : tail_of t ≡ Some tail
+  pub staged_is : staged t ≡ Accepted (mime_text header) (outcome base64 (plain_body tail))
       (option_map (percent_encoding in_fragment_set)
-      (fragment (without_tabs_and_newlines (url_tail u))))
+      (fragment (without_tabs_and_newlines tail)))
+
+-- u is the URL of the text t
+abbrev pub IsUrlOf : List ℕ → DataUrl → Type 0
+IsUrlOf t u = IsUrlWithParts t (record_of (mime_of u)) (is_base64 u) (url_tail u)
 
 -- the text has the scheme and a comma
 abbrev pub IsAcceptable : Staged → Type 0

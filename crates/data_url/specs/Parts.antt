@@ -1,6 +1,7 @@
--- Bodies, base64 and fragments in parts: what a call writes to its output, and what it leaves for the next.
-use Rattle.std.specs.List.{list_all}
-use Rattle.std.specs.Prelude.{◌%◌, ◌<◌, ◌==◌, ◌||◌}
+-- MIME types, bodies, base64 and fragments in parts: what a call writes to its output, and what it leaves for the next.
+use Rattle.std.specs.Int.{to_le_bytes, w64}
+use Rattle.std.specs.List.{flat_map, list_all}
+use Rattle.std.specs.Prelude.{◌%◌, ◌<◌, ◌⊎◌, ◌==◌, ◌^◌, ◌||◌, encode_utf8_all}
 use Rattle.std.specs.Prelude.{◌&&◌, ◌*◌, ◌+◌, ◌++◌, ◌-◌, ◌/◌, ◌≡◌, ◌≤◌, Bool, Err, List, MatchBool, MatchOption, Ok}
 use Rattle.std.specs.Prelude.{Result}
 use Rattle.std.specs.Prelude.{drop, length, nat_le, take, true, ℕ}
@@ -9,7 +10,15 @@ use Rattle.data_url.specs.Base64.{left_padding}
 use Rattle.data_url.specs.Base64.{left_symbols, left_text}
 use Rattle.data_url.specs.Fetch.{Bad, Good, Outcome, outcome, plain_body}
 use Rattle.data_url.specs.declared.forgiving_base64.left_over.LeftOver.{LeftOver}
+use Rattle.data_url.specs.DataUrl.{IsAcceptable, IsUrlWithParts}
+use Rattle.data_url.specs.Fetch.{NoComma, NoScheme, staged}
+use Rattle.data_url.specs.Mime.{HasNoRecord, IsWellformed, Pair, Parses, Record}
 use Rattle.data_url.specs.Url.{after, encoded_fragment, number_sign}
+use Rattle.data_url.specs.declared.DataUrlError.TheVariants as url
+use Rattle.data_url.specs.declared.DataUrlError.{DataUrlError}
+use Rattle.data_url.specs.declared.mime.MimeFromStrError.TheVariants as from_str
+use Rattle.data_url.specs.declared.mime.MimeFromStrError.{MimeFromStrError}
+use Rattle.data_url.specs.declared.parts.header.Header.{Header}
 use Rattle.data_url.specs.declared.parts.base64.Fed.{Fed}
 use Rattle.data_url.specs.declared.parts.body.Body.{Body}
 use Rattle.data_url.specs.declared.parts.body.Part.{Part}
@@ -137,3 +146,57 @@ pub record EncodesPart (text before after : List ℕ) (r : Encoded) : Type 0 whe
   pub bytes : List ℕ
   pub wrote : WritesFront bytes before after r.len
   pub rest_is : encoded_fragment text ≡ bytes ++ encoded_fragment (drop r.read text)
+
+-- MIME types
+
+-- a part: its length in eight bytes, the lowest first, and then its bytes
+unfoldable pub part : List ℕ → List ℕ
+part bytes = to_le_bytes w64 (length bytes) ++ bytes
+
+-- a name and a value, as parts
+abbrev pub parts_of_pair : Pair → List ℕ
+parts_of_pair p = part (encode_utf8_all p.0) ++ part (encode_utf8_all p.1)
+
+-- the record in parts: the type, the subtype, and the name and the value of each parameter, in order
+abbrev pub parts_of : Record → List ℕ
+parts_of m = part (encode_utf8_all m.type_)
+    ++ (part (encode_utf8_all m.subtype) ++ flat_map parts_of_pair m.parameters)
+
+-- the record has more than eight parameters, or 2^63 bytes or more in parts
+abbrev pub IsLong : Record → Type 0
+IsLong m = (8 < length m.parameters) ⊎ (2 ^ 63 ≤ length (parts_of m))
+
+-- len is the number of these bytes. They are written to the start of an output, if it has room for them, and the rest of it does
+-- not change. Otherwise none of it changes.
+pub record WritesIfFits (bytes before after : List ℕ) (len : ℕ) : Type 0 where
+  pub len_is : len ≡ length bytes
+  pub small : len < 2 ^ 63
+  pub fits : length bytes ≤ length before → after ≡ bytes ++ drop (length bytes) before
+  pub is_too_small : length before < length bytes → after ≡ before
+
+-- the text s is a MIME type, whose record is written to an output in parts
+pub record WritesMimeType (s before after : List ℕ) (len : ℕ) : Type 0 where
+  pub mime : Record
+  pub parses : Parses s mime
+  pub wellformed : IsWellformed mime
+  pub written : WritesIfFits (parts_of mime) before after len
+
+-- what reading the MIME type of a text returns. After an error the output is as it was.
+abbrev pub ReadsMimeType : List ℕ → List ℕ → List ℕ → Result ℕ MimeFromStrError → Type 0
+ReadsMimeType s before after (Ok len) = WritesMimeType s before after len
+ReadsMimeType s before after (Err (from_str.Parsing e)) = HasNoRecord s × (after ≡ before)
+ReadsMimeType s before after (Err from_str.OutOfMemory) =
+    (mime : Record) × Parses s mime × IsLong mime × (after ≡ before)
+
+-- the text t is a URL, whose MIME type is written to an output in parts
+pub record WritesHeader (t before after : List ℕ) (h : Header) : Type 0 where
+  pub mime : Record
+  pub url_is : IsUrlWithParts t mime h.base64 h.tail.now
+  pub written : WritesIfFits (parts_of mime) before after h.len
+
+-- what reading the header of a URL returns. After an error the output is as it was.
+abbrev pub ReadsHeader : List ℕ → List ℕ → List ℕ → Result Header DataUrlError → Type 0
+ReadsHeader t before after (Ok h) = WritesHeader t before after h
+ReadsHeader t before after (Err url.NotADataUrl) = (staged t ≡ NoScheme) × (after ≡ before)
+ReadsHeader t before after (Err url.NoComma) = (staged t ≡ NoComma) × (after ≡ before)
+ReadsHeader t before after (Err url.OutOfMemory) = IsAcceptable (staged t) × (after ≡ before)

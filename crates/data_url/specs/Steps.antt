@@ -3,6 +3,7 @@ pub mod Chunks
 pub mod Classes
 pub mod Digits
 pub mod Escapes
+pub mod Few
 pub mod Split
 pub mod Groups
 pub mod Header
@@ -10,6 +11,7 @@ pub mod Holding
 pub mod Kept
 pub mod Lanes
 pub mod Looks
+pub mod MimeParts
 pub mod Parsing
 pub mod Parts
 pub mod Printing

@@ -1,13 +1,15 @@
 //! The header of a data: URL (Fetch Standard, section 6), from its text in the input.
 
-ghost use Rattle.std.specs.Prelude.{◌≡◌, if◌then◌else◌, [], IfOk, IfSome, List, codes, string_bytes, true, ℕ};
+ghost use Rattle.std.specs.Prelude.{◌≡◌, if◌then◌else◌, [], IfOk, IfSome, List, MatchOption, codes, string_bytes, true, ℕ};
+ghost use Rattle.std.specs.Str.{chars};
 ghost use Rattle.data_url.specs.{Url.{without_tabs_and_newlines}, Fetch.{before_base64, with_plain}};
-ghost use Rattle.data_url.specs.Mime.{Record, default_record};
+ghost use Rattle.data_url.specs.Mime.{IsHead, Record, default_record};
+ghost use Rattle.data_url.specs.Steps.{MimeParts.{WritesParts}, Parsing.{HasNoHead}};
 ghost use Rattle.data_url.specs.Steps.Header.{IsHeaderOf, IsPathAndQuery, IsPrintable, IsRecordFor, IsSerialised, encoded_parts, header_text};
 ghost use Rattle.data_url.specs.MimeType.{as_option, record_of};
 
 use crate::classes::{Class, end_span, long_span};
-use crate::mime::{Mime, plain_head, read_head};
+use crate::mime::{Head, Mime, plain_head, read_head, write_default};
 use crate::percent::{EncodeSet, PART, push_encoded};
 use crate::split::trim;
 use std::alloc::{AllocError, Global};
@@ -106,21 +108,45 @@ pub(crate) fn split_suffix(header: &str) -> (&str, bool)
     }
 }
 
-/// Returns the record of a header without its suffix, or the default record. A missing type is `text/plain`.
+/// Returns the parts of the MIME type of a header without its suffix, if it has one. A missing type is `text/plain`.
 #[tactic(auto, using(crate::proofs::header::Stages::chars_printable, crate::proofs::header::Stages::begins_at))]
+fn media_head(media: &str) -> Option<Head<'_>>
+    requires { IsPrintable media.now }
+    ensures { MatchOption result (HasNoHead (with_plain media.now))
+        (λ h. IsHead (with_plain media.now) (chars h.type_.now) (chars h.subtype.now)
+        (chars h.parameters.now)) }
+{
+    if media.as_bytes().starts_with(b";") {
+        return Some(plain_head(media));
+    }
+    read_head(media)
+}
+
+/// Returns the record of a header without its suffix, or the default record.
 pub(crate) fn read_media(alloc: Global, media: &str) -> Result<Mime, AllocError>
     requires { IsPrintable media.now }
     ensures { IfOk result (λ mime. IsRecordFor (with_plain media.now) (record_of mime)) }
 {
-    let head = if media.as_bytes().starts_with(b";") {
-        plain_head(media)
-    } else {
-        match read_head(media) {
-            Some(head) => head,
-            None => return default_mime(alloc),
-        }
-    };
-    head.record(alloc)
+    match media_head(media) {
+        Some(head) => head.record(alloc),
+        None => default_mime(alloc),
+    }
+}
+
+/// Writes the record of a header without its suffix, or the default record, in parts to the start of an output that has room for it.
+/// Returns how many bytes it has.
+pub(crate) fn write_media(
+    alloc: Global,
+    media: &str,
+    output: &mut [u8],
+) -> Result<usize, AllocError>
+    requires { IsPrintable media.now }
+    ensures { WritesParts (IsRecordFor (with_plain media.now)) output.old output.new result }
+{
+    match &media_head(media) {
+        Some(head) => head.write(alloc, output),
+        None => Ok(write_default(output)),
+    }
 }
 
 /// `text/plain;charset=US-ASCII`.

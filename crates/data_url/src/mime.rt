@@ -3,14 +3,18 @@
 ghost use Rattle.std.specs.Prelude.{◌≡◌, ◌↔◌, IfOk, IsTrue, [], Some, codes};
 
 mod cuts;
+mod few;
+mod in_parts;
 mod kept;
 mod line;
 mod parse;
 mod print;
 mod values;
 
+pub use in_parts::read_mime_type;
+pub(crate) use in_parts::write_default;
 use line::Line;
-pub(crate) use parse::{plain_head, read_head};
+pub(crate) use parse::{Head, plain_head, read_head};
 use print::push_parameter;
 use std::alloc::{AllocError, Global};
 use std::error::Error;

@@ -1,7 +1,9 @@
 -- What a function returns for its input, from what the private functions return.
 use Rattle.std.proofs.Common.{◌≡◌, ℕ, Bool, true, false, List, ◌++◌, Option, None, Some, Result, Ok, Err, refl, sym, ap}
-use Rattle.std.proofs.Common.{◌∙◌, subst}
-use Rattle.std.specs.Prelude.{IsUtf8, MatchBool, MatchOption, chars, option_map}
+use Rattle.std.proofs.Common.{◌∙◌, ◌<◌, ◌^◌, arith, length, subst}
+use Rattle.std.specs.Global.{Global}
+use Rattle.std.specs.Prelude.{IsUtf8, MatchBool, MatchOption, Vec, chars, option_map}
+use denote.RawPtr.{null_ptr}
 use Rattle.data_url.specs.Base64.{Kind, complete_bytes, decoded, is_valid, kind_of}
 use Rattle.data_url.specs.DataUrl.{IsAcceptable, IsUrlOf, mime_of, url_body, url_tail}
 use Rattle.data_url.specs.Errors.{IsParsingError, IsRefused}
@@ -45,10 +47,10 @@ abbrev staged_part : DataUrl → Option (List ℕ)
 staged_part url = option_map (percent_encoding in_fragment_set) (fragment_in (without_tabs_and_newlines (url_tail url)))
 
 -- a text of a URL has the body and the fragment of that URL
-pub url_with : {x : List ℕ} {url : DataUrl} {body : Outcome} {fragment : Option (List ℕ)} → IsUtf8 x → IsUrlOf x url
+pub url_with : {x : List ℕ} (url : DataUrl) {body : Outcome} {fragment : Option (List ℕ)} → IsUtf8 x → IsUrlOf x url
     → url_body url ≡ body → option_map encoded_fragment (after 35 (url_tail url)) ≡ fragment
     → IsUrlWith x body fragment
-url_with {url = url} {body = body} t u b f =
+url_with url {body} t u b f =
     let e = ap (option_map (percent_encoding in_fragment_set)) (fragment_dropped (url_tail url))
     ∙ encoded_is (after 35 (url_tail url)) ∙ f in
     record {
@@ -59,18 +61,18 @@ url_with {url = url} {body = body} t u b f =
     }
 
 -- a result that has the body of a URL is a result for the text of that URL
-pub gives_body : {x : List ℕ} {url : DataUrl} → IsUtf8 x → IsUrlOf x url → (given : Given)
+pub gives_body : {x : List ℕ} (url : DataUrl) → IsUtf8 x → IsUrlOf x url → (given : Given)
     → HasBody (url_body url) given → GivesBody x given
-gives_body t u (Ok bytes) h = (_, url_with t u h refl)
-gives_body t u (Err (InvalidBase64 kind before)) h = (_, url_with t u h refl)
-gives_body {x = x} t u (Err OutOfMemory) h = (t, accepted x u.staged_is)
-gives_body t u (Err NotADataUrl) h = absurd h
-gives_body t u (Err NoComma) h = absurd h
-gives_body t u (Err NotUtf8) h = absurd h
-gives_body t u (Err NotAMimeType) h = absurd h
-gives_body t u (Err NoFragment) h = absurd h
+gives_body url t u (Ok bytes) h = (_, url_with url t u h refl)
+gives_body url t u (Err (InvalidBase64 kind before)) h = (_, url_with url t u h refl)
+gives_body {x} url t u (Err OutOfMemory) h = (t, accepted x u.staged_is)
+gives_body url t u (Err NotADataUrl) h = absurd h
+gives_body url t u (Err NoComma) h = absurd h
+gives_body url t u (Err NotUtf8) h = absurd h
+gives_body url t u (Err NotAMimeType) h = absurd h
+gives_body url t u (Err NoFragment) h = absurd h
 
--- the fragment of a text that is not a data: URL
+-- the body of a text that is not a data: URL
 pub body_refused : (x : List ℕ) (refusal : Refusal) → RefusesUrl x refusal → GivesBody x (Err refusal)
 body_refused x NotADataUrl h = h
 body_refused x NoComma h = h
@@ -81,21 +83,21 @@ body_refused x NoFragment h = h
 body_refused x (InvalidBase64 kind before) h = absurd h
 
 -- a result that has the fragment of a URL is a result for the text of that URL
-pub gives_fragment : {x : List ℕ} {url : DataUrl} → IsUtf8 x → IsUrlOf x url → (given : Given) → HasFragment url given
+pub gives_fragment : {x : List ℕ} (url : DataUrl) → IsUtf8 x → IsUrlOf x url → (given : Given) → HasFragment url given
     → GivesFragment x given
-gives_fragment t u (Ok text) h = (h.0, url_with t u h.1 h.2)
-gives_fragment t u (Err NoFragment) h = (h.0, url_with t u h.1 (ap (option_map encoded_fragment) h.2))
-gives_fragment t u (Err (InvalidBase64 kind none)) h = (h.0, _, url_with t u h.1 refl, h.2)
-gives_fragment {x = x} t u (Err OutOfMemory) h = (t, accepted x u.staged_is)
-gives_fragment t u (Err NotADataUrl) h = absurd h
-gives_fragment t u (Err NoComma) h = absurd h
-gives_fragment t u (Err NotUtf8) h = absurd h
-gives_fragment t u (Err NotAMimeType) h = absurd h
+gives_fragment url t u (Ok text) h = (h.0, url_with url t u h.1 h.2)
+gives_fragment url t u (Err NoFragment) h = (h.0, url_with url t u h.1 (ap (option_map encoded_fragment) h.2))
+gives_fragment url t u (Err (InvalidBase64 kind none)) h = (h.0, _, url_with url t u h.1 refl, h.2)
+gives_fragment {x} url t u (Err OutOfMemory) h = (t, accepted x u.staged_is)
+gives_fragment url t u (Err NotADataUrl) h = absurd h
+gives_fragment url t u (Err NoComma) h = absurd h
+gives_fragment url t u (Err NotUtf8) h = absurd h
+gives_fragment url t u (Err NotAMimeType) h = absurd h
 
 -- a result that has the serialised MIME type of a URL is a result for the text of that URL
-pub gives_mime : {x : List ℕ} {url : DataUrl} {mime : Mime} → IsUtf8 x → IsUrlOf x url → mime ≡ mime_of url
+pub gives_mime : {x : List ℕ} (url : DataUrl) {mime : Mime} → IsUtf8 x → IsUrlOf x url → mime ≡ mime_of url
     → (given : Given) → HasText (record_of mime) given → GivesMime x given
-gives_mime {url = url} t u e (Ok text) h =
+gives_mime url t u e (Ok text) h =
     let P : Mime → Type 0 = λ m. HasText (record_of m) (Ok text) in
     record {
       type_text = _;
@@ -107,13 +109,13 @@ gives_mime {url = url} t u e (Ok text) h =
       record_is = u.record_is;
       text_is = subst P e h;
     }
-gives_mime {x = x} t u e (Err OutOfMemory) h = (t, accepted x u.staged_is)
-gives_mime t u e (Err NoFragment) h = absurd h
-gives_mime t u e (Err (InvalidBase64 kind none)) h = absurd h
-gives_mime t u e (Err NotADataUrl) h = absurd h
-gives_mime t u e (Err NoComma) h = absurd h
-gives_mime t u e (Err NotUtf8) h = absurd h
-gives_mime t u e (Err NotAMimeType) h = absurd h
+gives_mime {x} url t u e (Err OutOfMemory) h = (t, accepted x u.staged_is)
+gives_mime url t u e (Err NoFragment) h = absurd h
+gives_mime url t u e (Err (InvalidBase64 kind none)) h = absurd h
+gives_mime url t u e (Err NotADataUrl) h = absurd h
+gives_mime url t u e (Err NoComma) h = absurd h
+gives_mime url t u e (Err NotUtf8) h = absurd h
+gives_mime url t u e (Err NotAMimeType) h = absurd h
 
 -- MIME types
 
@@ -192,6 +194,18 @@ pub decodes_valid : {F E : Type 0} {step : F → List ℕ → Result (Unit {0}) 
 decodes_valid {x = x} {r = r} h q = valid_all (refusal h.run) (is_valid x) x _ (joined_pieces h.run) r q h.gave
 
 -- Results
+
+-- a vector with these bytes
+abbrev pub vec_of : Global → (bytes : List ℕ) → length bytes < 2 ^ 63 → Vec ℕ Global
+vec_of memory bytes small = record {
+  ptr = null_ptr;
+  len = length bytes;
+  cap = length bytes;
+  alloc = memory;
+  items = bytes;
+  ok = (refl, omega arith);
+  small = small;
+}
 
 -- what a call gives, as a result in C
 pub answers : (Gives : Given → Type 0) (given : Given) {old new : List ℕ} {r : DataUrlAnswer} → Gives given

@@ -1,12 +1,5 @@
-pub mod BareLemmas
-pub mod BareUrlLemmas
 pub mod BodyLemmas
-pub mod CommaLemmas
-pub mod FlagLemmas
-pub mod FormLemmas
 pub mod GivenLemmas
 pub mod OpenLemmas
 pub mod OutputLemmas
-pub mod PrintLemmas
-pub mod ProbeLemmas
 pub mod WholeLemmas

@@ -93,8 +93,3 @@ module _ {F E : Type 0} {step : F → List ℕ → Result (Unit {0}) E → F →
     pub gets_keep : {A : Type 0} → GetsBytes step f all Ended g → (K : F → A)
         → ((p : F) (piece : List ℕ) (s : Result (Unit {0}) E) (q : F) → step p piece s q → K p ≡ K q) → K f ≡ K g
     gets_keep h K keeps = run_keeps step K keeps h.run f g h.ran
-
--- bytes that fit into an output and are at its start were written there
-pub reaches_front : {bytes out out' : List ℕ} {len : ℕ} → Reaches out bytes out' len → length bytes ≤ length out
-    → WritesFront bytes out out' len
-reaches_front h fits = let k = h fits in writes_front refl k.0 k.1 fits

@@ -19,9 +19,8 @@ use Rattle.data_url_c.specs.Gives.{GivesBody}
 use Rattle.data_url.specs.Parts.{WritesFront}
 use Rattle.data_url_c.specs.Steps.{AnyAnswer, GetsBody}
 use Rattle.data_url_c.specs.declared.refusal.Refusal.TheVariants.{InvalidBase64}
-use Rattle.data_url_c.proofs.GivenLemmas.{url_with}
+use Rattle.data_url_c.proofs.GivenLemmas.{url_with, vec_of}
 use Rattle.data_url_c.proofs.OutputLemmas.{Reaches, no_refusal, passes_on, writes_front}
-use Rattle.data_url_c.proofs.PrintLemmas.{vec_of}
 
 -- What the calls of a closure wrote
 
@@ -63,32 +62,32 @@ shows_front : {bytes old new : List ℕ} {status status' len : ℕ} → status' 
 shows_front {bytes} {old} {new} {status} {status'} {len} e size w = grind (arith, length-take-le, take-append-drop)
 
 -- if the outcome of a URL's body was written to the output, the answer gives that body
-answers_by : {x : List ℕ} {url : DataUrl} {old new : List ℕ} {status len : ℕ} → Global → IsUtf8 x → IsUrlOf x url
+answers_by : {x : List ℕ} (url : DataUrl) {old new : List ℕ} {status len : ℕ} → Global → IsUtf8 x → IsUrlOf x url
     → length old < 2 ^ 63
     → length new ≡ length old → (o : Outcome) → url_body url ≡ o → EndsAs o old new status len
     → Answers (GivesBody x) old new (record { status = status; len = len })
-answers_by {old = old} {len = len} memory t u small size (Good bytes) e h =
+answers_by url {old} {len = len} memory t u small size (Good bytes) e h =
     let shown = shows_front h.0 size h.1 in
     let within = h.1.within in
     let long = shown.len in
     record {
       given = Ok (vec_of memory bytes (omega (arith, long, within)));
-      is_given = (_, url_with t u e refl);
+      is_given = (_, url_with url t u e refl);
       crosses = shown;
     }
-answers_by {old = old} {len = len} memory t u small size (Bad bytes kind) e h =
+answers_by url {old} {len = len} memory t u small size (Bad bytes kind) e h =
     let shown = shows_front h.0 size h.1 in
     let within = h.1.within in
     let long = shown.len in
     record {
       given = Err (InvalidBase64 kind (vec_of memory bytes (omega (arith, long, within))));
-      is_given = (_, url_with t u e refl);
+      is_given = (_, url_with url t u e refl);
       crosses = shown;
     }
 
 -- if the body of a URL was written into the output, the answer is that of the body
-pub answers_into : {x : List ℕ} {url : DataUrl} {old new : List ℕ} {status len : ℕ} → Global → IsUtf8 x → IsUrlOf x url
+pub answers_into : {x : List ℕ} (url : DataUrl) {old new : List ℕ} {status len : ℕ} → Global → IsUtf8 x → IsUrlOf x url
     → length old < 2 ^ 63
     → length new ≡ length old → EndsAs (url_body url) old new status len
     → Answers (GivesBody x) old new (record { status = status; len = len })
-answers_into {url = url} memory t u small size h = answers_by memory t u small size (url_body url) refl h
+answers_into url memory t u small size h = answers_by url memory t u small size (url_body url) refl h

@@ -6,7 +6,8 @@ use Rattle.data_url.specs.DataUrl.{IsAcceptable}
 use Rattle.data_url.specs.Fetch.{Accepted, Bad, Good, NoComma as no_comma, NoScheme, Outcome, staged}
 use Rattle.data_url.specs.Mime.{HasNoRecord, IsRecordOf, Parses, Record, printed}
 use Rattle.data_url_c.specs.Answers.{Given}
-use Rattle.data_url_c.specs.Forms.{parts_of, serialised}
+use Rattle.data_url.specs.Parts.{parts_of}
+use Rattle.data_url_c.specs.Forms.{serialised}
 use Rattle.data_url_c.specs.declared.refusal.Refusal.TheVariants.{InvalidBase64, NoComma, NoFragment, NotADataUrl}
 use Rattle.data_url_c.specs.declared.refusal.Refusal.TheVariants.{NotAMimeType, NotUtf8, OutOfMemory}
 use Rattle.data_url_c.specs.declared.refusal.Refusal.{Refusal}

@@ -4,7 +4,8 @@ use Rattle.data_url.specs.Fetch.{Accepted, has_base64_suffix, header_of, mime_te
 use Rattle.data_url.specs.Fetch.{tail_of}
 use Rattle.data_url.specs.Mime.{IsRecordOf, Record}
 use Rattle.data_url_c.specs.Answers.{Crosses, Given}
-use Rattle.data_url_c.specs.Forms.{parts_of, serialised}
+use Rattle.data_url.specs.Parts.{parts_of}
+use Rattle.data_url_c.specs.Forms.{serialised}
 use Rattle.data_url_c.specs.Gives.{RefusesUrl}
 use Rattle.data_url_c.specs.declared.answer.DataUrlAnswer.{DataUrlAnswer}
 use Rattle.data_url_c.specs.declared.open.DataUrlOpened.{DataUrlOpened}

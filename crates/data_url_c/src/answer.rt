@@ -1,6 +1,7 @@
 //! How a result is passed to C: as a status, a length, and bytes in the caller's output.
 
-ghost use Rattle.std.specs.Prelude.{◌≡◌};
+ghost use Rattle.std.specs.Prelude.{◌≡◌, List, ℕ};
+ghost use Rattle.data_url.specs.Parts.{WritesIfFits};
 ghost use Rattle.data_url_c.specs.Answers.{Crosses, Shows};
 
 use crate::kind::status_of;
@@ -52,6 +53,18 @@ pub(crate) fn show(status: u32, bytes: &[u8], out: &mut [u8]) -> DataUrlAnswer
         };
     }
     out[..len].copy_from_slice(bytes);
+    DataUrlAnswer { status, len }
+}
+
+/// Returns the result for bytes that were written to the start of an output, if it has room for them.
+pub(crate) fn written(len: usize, out: &[u8]) -> DataUrlAnswer
+    ensures { (bytes old : List ℕ) → WritesIfFits bytes old out.now len → Shows 0 bytes old out.now result }
+{
+    let status = if len > out.len() {
+        OUTPUT_TOO_SMALL
+    } else {
+        DONE
+    };
     DataUrlAnswer { status, len }
 }
 

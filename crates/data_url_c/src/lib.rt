@@ -19,6 +19,19 @@
 //! | 12 | a state that no call returned | 0 |
 //!
 //! The output after the bytes of a result is unchanged; if the length is 0, all of it is.
+//!
+//! How often each function allocates for a short text, whose MIME type has no parameter or one:
+//!
+//! | Function | Allocations | With a parameter |
+//! |---|---|---|
+//! | those whose names end in `_next`, `_feed` or `_finish` | 0, for any text | |
+//! | `dataurl_open_parts`, `dataurl_type_parts`, and with `_utf8` | 0, up to eight parameters | 0 |
+//! | `dataurl_base64` | 1 | |
+//! | `dataurl_body` into a large output | 2 | 5 |
+//! | the others | 3 | 6 |
+//!
+//! A header with a `?`, a tab, a newline or a byte to percent-encode takes one more. Without a MIME type it counts as one
+//! with a parameter.
 #![tactic(auto)]
 
 ghost use Rattle.std.specs.Prelude.{IsUtf8};
@@ -30,12 +43,8 @@ ghost use Rattle.data_url_c.specs.Opens.{Opens, OpensInParts};
 ghost use Rattle.data_url_c.specs.Parts.{EncodesFragment, FeedsPart, FinishesPart};
 
 mod answer;
-mod bare;
 mod base64;
 mod body;
-mod comma;
-mod flag;
-mod form;
 mod fragment;
 mod kind;
 mod open;
@@ -96,8 +105,20 @@ pub extern "C" fn dataurl_type(alloc: Global, text: &[u8], out: &mut [u8]) -> Da
 }
 
 /// A MIME type, parsed
-/// ([MIME Sniffing Standard, section 4.4](https://mimesniff.spec.whatwg.org/#parsing-a-mime-type)), in parts, as
-/// `dataurl_open_parts_utf8` writes it. The text is UTF-8, and is not checked.
+/// ([MIME Sniffing Standard, section 4.4](https://mimesniff.spec.whatwg.org/#parsing-a-mime-type)), in parts: the type, the
+/// subtype, and the name and the value of each parameter. Each part comes after its length, which takes eight bytes, the
+/// lowest first.
+#[unsafe(no_mangle)]
+pub extern "C" fn dataurl_type_parts(alloc: Global, text: &[u8], out: &mut [u8]) -> DataUrlAnswer
+    ensures { Answers (GivesTypeInParts text.now) out.old out.new result }
+{
+    match texts::text_of(text) {
+        Some(text) => texts::type_in_parts(alloc, text, out),
+        None => answer(Err(Refusal::NotUtf8), out),
+    }
+}
+
+/// A MIME type, parsed, in parts as from `dataurl_type_parts`. The text is UTF-8, and is not checked.
 #[unsafe(no_mangle)]
 pub extern "C" fn dataurl_type_parts_utf8(
     alloc: Global,
@@ -107,7 +128,7 @@ pub extern "C" fn dataurl_type_parts_utf8(
     requires { IsUtf8 text.now }
     ensures { Answers (GivesTypeInParts text.now) out.old out.new result }
 {
-    form::type_in_parts(alloc, unsafe { str::from_utf8_unchecked(text) }, out)
+    texts::type_in_parts(alloc, unsafe { str::from_utf8_unchecked(text) }, out)
 }
 
 /// Decodes base64
@@ -127,7 +148,7 @@ pub extern "C" fn dataurl_open(alloc: Global, url: &[u8], out: &mut [u8]) -> Dat
     ensures { Opens url.now out.old out.new result }
 {
     match texts::text_of(url) {
-        Some(text) => open::open(alloc, text, false, out),
+        Some(text) => open::open(alloc, text, out),
         None => open::refused(Refusal::NotUtf8, out),
     }
 }
@@ -138,11 +159,21 @@ pub extern "C" fn dataurl_open_utf8(alloc: Global, url: &[u8], out: &mut [u8]) -
     requires { IsUtf8 url.now }
     ensures { Opens url.now out.old out.new result }
 {
-    open::open(alloc, unsafe { str::from_utf8_unchecked(url) }, false, out)
+    open::open(alloc, unsafe { str::from_utf8_unchecked(url) }, out)
 }
 
-/// Opens a data: URL as `dataurl_open_utf8` does, and writes its MIME type in parts: the type, the subtype, and the name and
-/// the value of each parameter. Each part comes after its length, which takes eight bytes, the lowest first.
+/// Opens a data: URL as `dataurl_open` does, but writes its MIME type in parts, as `dataurl_type_parts` does.
+#[unsafe(no_mangle)]
+pub extern "C" fn dataurl_open_parts(alloc: Global, url: &[u8], out: &mut [u8]) -> DataUrlOpened
+    ensures { OpensInParts url.now out.old out.new result }
+{
+    match texts::text_of(url) {
+        Some(text) => dataurl_open_parts_utf8(alloc, text.as_bytes(), out),
+        None => open::refused(Refusal::NotUtf8, out),
+    }
+}
+
+/// Opens a data: URL that is known to be UTF-8, as `dataurl_open_parts` does.
 #[unsafe(no_mangle)]
 pub extern "C" fn dataurl_open_parts_utf8(
     alloc: Global,
@@ -152,7 +183,7 @@ pub extern "C" fn dataurl_open_parts_utf8(
     requires { IsUtf8 url.now }
     ensures { OpensInParts url.now out.old out.new result }
 {
-    open::open(alloc, unsafe { str::from_utf8_unchecked(url) }, true, out)
+    open::open_in_parts(alloc, unsafe { str::from_utf8_unchecked(url) }, out)
 }
 
 /// Feeds a part of base64

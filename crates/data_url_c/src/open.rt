@@ -1,27 +1,16 @@
-//! Opening a URL: its MIME type, its tail and whether its body is base64, from its header alone.
+//! Opening a URL: its MIME type, its tail and whether its body is base64, from its header.
 
-ghost use Rattle.std.specs.Prelude.{◌≡◌, ◌==◌, ◌++◌, ◌<◌, IfOk, Some, codes, length, slice_index, string_bytes, take};
-ghost use Rattle.std.specs.List.{position, suffix_len};
-ghost use Rattle.data_url.specs.DataUrl.{url_body};
-ghost use Rattle.data_url.specs.Url.{is_c0_control_or_space};
-ghost use Rattle.data_url_c.specs.Gives.{RefusesUrl};
-ghost use Rattle.data_url_c.specs.Opens.{OpensAs};
-ghost use Rattle.data_url_c.specs.Steps.{HasLength, ReadsProbe, form_of};
-ghost use Rattle.data_url_c.specs.Steps.Opening.{IsRefused, ReadsUrl, WritesType};
+ghost use Rattle.std.specs.Prelude.{◌≡◌, Some};
+ghost use Rattle.std.specs.List.{suffix_len};
+ghost use Rattle.data_url.specs.{Fetch.{tail_of}, Url.{is_c0_control_or_space}};
+ghost use Rattle.data_url_c.specs.Opens.{Opens, OpensInParts};
+ghost use Rattle.data_url_c.specs.Steps.Opening.{IsOpenedAt, IsRefused};
 
-use crate::answer::{DataUrlAnswer, answer};
-use crate::bare::{bare_of, show_bare};
-use crate::comma::comma_of;
-use crate::flag::flag_of;
-use crate::form::{show_default, show_record};
+use crate::answer::{DONE, DataUrlAnswer, answer, show, written};
 use crate::refusal::Refusal;
-use crate::texts::{decode_body, url_of};
-use data_url::DataUrl;
-use std::alloc::{AllocError, Global};
-use std::convert::Infallible;
-
-/// The start of a URL with an empty header.
-const NO_HEADER: &[u8; 6] = b"data:,";
+use crate::texts::{printed_of, refusal_of, url_of};
+use data_url::parts::{Body, read_header};
+use std::alloc::Global;
 
 /// What opening a URL returns.
 #[repr(C)]
@@ -40,116 +29,10 @@ pub struct DataUrlOpened {
 }
 
 /// Returns how many bytes at the end are C0 controls or spaces.
-pub(crate) fn low_end_len(bytes: &[u8]) -> usize
+fn low_end_len(bytes: &[u8]) -> usize
     ensures { result ≡ suffix_len is_c0_control_or_space bytes.now }
 {
     bytes.iter().rev().take_while(|byte| **byte <= b' ').count()
-}
-
-/// Returns the text before its comma, with the body `QQ` after it: a URL with the same header, whose body has one byte if it
-/// is base64, and two if it is not.
-fn probe_of(alloc: Global, text: &str, comma: usize) -> Result<String, AllocError>
-    requires here { comma < length text.now }
-    requires comma { slice_index text.now comma ≡ 44 }
-    ensures { IfOk result (λ probe. string_bytes probe ≡ take comma text.now ++ codes ",QQ") }
-{
-    let mut probe = String::with_capacity(alloc, comma + 3)?;
-    probe.push_str(&text[..comma])?;
-    probe.push_str(",QQ")?;
-    Ok(probe)
-}
-
-/// Returns how many bytes the body of a URL has.
-fn body_len(url: &DataUrl) -> usize
-    ensures { HasLength (url_body url.now) result }
-{
-    let mut len: usize = 0;
-    let mut answer = Ok(());
-    decode_body(url, &mut answer, |piece: &[u8]| -> Result<(), Infallible> {
-        len = len.saturating_add(piece.len());
-        Ok(())
-    });
-    match answer {
-        Ok(()) => len,
-        Err(_) => 0,
-    }
-}
-
-/// Returns why a text is not a data: URL; for one that is, returns that allocation failed.
-fn refusal_of(alloc: Global, text: &str) -> Refusal
-    ensures { RefusesUrl text.now result }
-{
-    match url_of(alloc, text) {
-        Err(refusal) => refusal,
-        Ok(_) => Refusal::OutOfMemory,
-    }
-}
-
-/// Writes the MIME type of a probe's URL, and returns whether its body is base64.
-fn read_probe(
-    alloc: Global,
-    probe: &str,
-    in_parts: bool,
-    out: &mut [u8],
-) -> Result<(DataUrlAnswer, bool), Refusal>
-    ensures { ReadsProbe (form_of in_parts) probe.now out.old out.new result }
-{
-    let url = match url_of(alloc, probe) {
-        Ok(url) => url,
-        Err(refusal) => return Err(refusal),
-    };
-    match show_record(alloc, url.mime_type(), in_parts, out) {
-        Some(answer) => Ok((answer, body_len(&url) == 1)),
-        None => Err(Refusal::OutOfMemory),
-    }
-}
-
-/// Writes the MIME type of a URL to the start of an output, in parts or serialised.
-fn write_type(
-    alloc: Global,
-    text: &str,
-    in_parts: bool,
-    out: &mut [u8],
-) -> Result<DataUrlAnswer, Refusal>
-    ensures { WritesType (form_of in_parts) text.now out.old out.new result }
-{
-    let url = match url_of(alloc, text) {
-        Ok(url) => url,
-        Err(refusal) => return Err(refusal),
-    };
-    match show_record(alloc, url.mime_type(), in_parts, out) {
-        Some(answer) => Ok(answer),
-        None => Err(Refusal::OutOfMemory),
-    }
-}
-
-/// Writes the MIME type of a URL with a comma, and returns whether its body is base64.
-fn read_url(
-    alloc: Global,
-    text: &str,
-    comma: usize,
-    in_parts: bool,
-    out: &mut [u8],
-) -> Result<(DataUrlAnswer, bool), Refusal>
-    requires { position (λ b. b == 44) text.now ≡ Some comma }
-    ensures { ReadsUrl (form_of in_parts) text.now comma out.old out.new result }
-{
-    if text.as_bytes().starts_with(NO_HEADER) {
-        return Ok((show_default(in_parts, out), false));
-    }
-    if let Some(bare) = bare_of(text, comma) {
-        return Ok((show_bare(bare, in_parts, out), bare.is_base64));
-    }
-    if let Some(is_base64) = flag_of(text, comma) {
-        return match write_type(alloc, text, in_parts, out) {
-            Ok(answer) => Ok((answer, is_base64)),
-            Err(refusal) => Err(refusal),
-        };
-    }
-    match probe_of(alloc, text, comma) {
-        Ok(probe) => read_probe(alloc, probe.as_str(), in_parts, out),
-        Err(AllocError) => Err(refusal_of(alloc, text)),
-    }
 }
 
 /// Returns the result for a text that is not a data: URL.
@@ -166,24 +49,50 @@ pub(crate) fn refused(refusal: Refusal, out: &mut [u8]) -> DataUrlOpened
     }
 }
 
-/// Opens the URL of a text. Its MIME type is written in parts or serialised.
-pub(crate) fn open(alloc: Global, text: &str, in_parts: bool, out: &mut [u8]) -> DataUrlOpened
-    ensures { OpensAs (form_of in_parts) text.now out.old out.new result }
+/// Returns the result for a URL with this tail.
+#[inline(always)]
+fn opened(text: &str, mime: DataUrlAnswer, tail: &[u8], is_base64: bool) -> DataUrlOpened
+    requires { tail_of text.now ≡ Some tail.now }
+    ensures { IsOpenedAt text.now tail.now mime is_base64 result }
 {
-    let Some(comma) = comma_of(text) else {
-        return refused(refusal_of(alloc, text), out);
+    let DataUrlAnswer { status, len } = mime;
+    let tail_len = tail.len();
+    DataUrlOpened {
+        status,
+        len,
+        tail: text.len() - low_end_len(text.as_bytes()) - tail_len,
+        tail_len,
+        is_base64,
+    }
+}
+
+/// Opens the URL of a text. Its MIME type is written as it is printed.
+pub(crate) fn open(alloc: Global, text: &str, out: &mut [u8]) -> DataUrlOpened
+    ensures { Opens text.now out.old out.new result }
+{
+    let url = match url_of(alloc, text) {
+        Ok(url) => url,
+        Err(refusal) => return refused(refusal, out),
     };
-    match read_url(alloc, text, comma, in_parts, out) {
-        Ok((DataUrlAnswer { status, len }, is_base64)) => {
-            let tail = comma + 1;
-            DataUrlOpened {
-                status,
-                len,
-                tail,
-                tail_len: text.len() - tail - low_end_len(&text.as_bytes()[tail..]),
-                is_base64,
-            }
-        }
+    let body = Body::new(&url);
+    match printed_of(alloc, url.mime_type()) {
+        Ok(mime) => opened(text, show(DONE, &mime, out), body.tail(), body.is_base64()),
         Err(refusal) => refused(refusal, out),
+    }
+}
+
+/// Opens the URL of a text. Its MIME type is written in parts. It is compiled into its one caller, so that the result is not copied.
+#[inline(always)]
+pub(crate) fn open_in_parts(alloc: Global, text: &str, out: &mut [u8]) -> DataUrlOpened
+    ensures { OpensInParts text.now out.old out.new result }
+{
+    match read_header(alloc, text, out) {
+        Ok(header) => opened(
+            text,
+            written(header.len, out),
+            header.tail.as_bytes(),
+            header.base64,
+        ),
+        Err(error) => refused(refusal_of(error), out),
     }
 }

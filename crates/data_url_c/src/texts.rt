@@ -4,12 +4,14 @@ ghost use Rattle.std.specs.Prelude.{◌+◌, ◌≡◌, IsUtf8, MatchOption, len
 ghost use Rattle.std.specs.Fn.{CalledAt};
 ghost use Rattle.data_url.specs.DataUrl.{Decodes, url_body, url_tail};
 ghost use Rattle.data_url.specs.MimeType.{record_of};
-ghost use Rattle.data_url_c.specs.Gives.{GivesFragment, GivesMime, GivesType};
-ghost use Rattle.data_url_c.specs.Steps.{AnyAnswer, HasBody, HasFragment, HasText, IsUrlFor};
+ghost use Rattle.data_url_c.specs.{Answers.{Answers}, Gives.{GivesFragment, GivesMime, GivesType, GivesTypeInParts}};
+ghost use Rattle.data_url_c.specs.Steps.{AnyAnswer, HasBody, HasFragment, HasText, IsRefusalOf, IsUrlFor};
 
+use crate::answer::{DataUrlAnswer, answer, written};
 use crate::refusal::Refusal;
 use data_url::forgiving_base64::DecodeError;
 use data_url::mime::{Mime, MimeFromStrError};
+use data_url::parts::read_mime_type;
 use data_url::{DataUrl, DataUrlError};
 use std::alloc::{AllocError, Global};
 use std::convert::Infallible;
@@ -22,15 +24,24 @@ pub(crate) fn text_of(bytes: &[u8]) -> Option<&str>
     str::from_utf8(bytes).ok()
 }
 
+/// Returns why a text is not a data: URL.
+pub(crate) fn refusal_of(error: DataUrlError) -> Refusal
+    ensures { IsRefusalOf error result }
+{
+    match error {
+        DataUrlError::NotADataUrl => Refusal::NotADataUrl,
+        DataUrlError::NoComma => Refusal::NoComma,
+        DataUrlError::OutOfMemory => Refusal::OutOfMemory,
+    }
+}
+
 /// The URL of a text.
 pub(crate) fn url_of<'a>(alloc: Global, text: &'a str) -> Result<DataUrl<'a>, Refusal>
     ensures { IsUrlFor text.entry.now result }
 {
     match DataUrl::process(alloc, text) {
         Ok(url) => Ok(url),
-        Err(DataUrlError::NotADataUrl) => Err(Refusal::NotADataUrl),
-        Err(DataUrlError::NoComma) => Err(Refusal::NoComma),
-        Err(DataUrlError::OutOfMemory) => Err(Refusal::OutOfMemory),
+        Err(error) => Err(refusal_of(error)),
     }
 }
 
@@ -139,5 +150,16 @@ pub(crate) fn type_(alloc: Global, text: &[u8]) -> Result<Vec<u8>, Refusal>
         Ok(mime) => printed_of(alloc, &mime),
         Err(MimeFromStrError::Parsing(_)) => Err(Refusal::NotAMimeType),
         Err(MimeFromStrError::OutOfMemory) => Err(Refusal::OutOfMemory),
+    }
+}
+
+/// Writes the MIME type of a text in parts to the start of an output.
+pub(crate) fn type_in_parts(alloc: Global, text: &str, out: &mut [u8]) -> DataUrlAnswer
+    ensures { Answers (GivesTypeInParts text.now) out.old out.new result }
+{
+    match read_mime_type(alloc, text, out) {
+        Ok(len) => written(len, out),
+        Err(MimeFromStrError::Parsing(_)) => answer(Err(Refusal::NotAMimeType), out),
+        Err(MimeFromStrError::OutOfMemory) => answer(Err(Refusal::OutOfMemory), out),
     }
 }

@@ -23,7 +23,7 @@ use Rattle.dataurl.proofs.StepLemmas.{writes_as, writes_map, writes_no_memory, w
 
 -- if the result for a text is `Ok` of a URL, it is the URL of the text
 url_for : (x : List ℕ) (r : Result DataUrl Fault) (url : DataUrl) → r ≡ Ok url → IsUrlFor x r → IsUrlOf x url
-url_for x r url e (url_is {url = u} h) = let same : u ≡ url = cc in subst (IsUrlOf x) same h
+url_for x r url e (url_is u h) = let same : u ≡ url = cc in subst (IsUrlOf x) same h
 url_for x r url e (no_scheme_is h) = absurd (let k = e in cc)
 url_for x r url e (no_comma_is h) = absurd (let k = e in cc)
 url_for x r url e (no_url_memory h) = absurd (let k = e in cc)
@@ -53,7 +53,7 @@ mime_writes_of {x} {url} {held} {now} {r} mime h e w =
 -- if a text is refused as a URL, a command that takes a URL writes nothing, and ends with that fault
 refused_as : (x : List ℕ) (c : Command) (held : Option (List ℕ)) (r : Result DataUrl Fault) (fault : Fault) → TakesUrl c
     → r ≡ Err fault → IsUrlFor x r → WritesOf (IsTextOutput x c) held held (Err fault)
-refused_as x c held r fault t e (url_is h) = absurd (let k = e in cc)
+refused_as x c held r fault t e (url_is u h) = absurd (let k = e in cc)
 refused_as x c held r fault t e (no_scheme_is h) = let P : Fault → Type 0 =
     λ f. WritesOf (IsTextOutput x c) held held (Err f) in subst P (cc) (writes_nothing held (without_scheme t h))
 refused_as x c held r fault t e (no_comma_is h) = let P : Fault → Type 0 =

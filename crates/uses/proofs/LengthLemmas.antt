@@ -19,6 +19,6 @@ accepted_good : (t : List ℕ) {type_text bytes : List ℕ} {o : Outcome} {fragm
 accepted_good t {type_text = type_text} {fragment = fragment} e g = e ∙ ap (λ x. Accepted type_text x fragment) g
 
 -- a length that was counted, at most up to the greatest number, is that of the body
-pub exact_len : {t : List ℕ} {url : DataUrl} (len : ℕ) → IsUrlOf t url → length t < 2 ^ 64
+pub exact_len : {t : List ℕ} (url : DataUrl) (len : ℕ) → IsUrlOf t url → length t < 2 ^ 64
     → IsLengthOf (url_body url) (Ok len) → HasLength t (Ok len)
-exact_len {t} {url} len u few h = grind (arith, good_len, body_within_text, accepted_good)
+exact_len {t} url len u few h = grind (arith, good_len, body_within_text, accepted_good)

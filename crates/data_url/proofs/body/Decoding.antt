@@ -553,8 +553,8 @@ pub body_within_tail : (url : DataUrl) → length (outcome_bytes (url_body url))
 body_within_tail url = grind (arith, outcome_shorter, body_shorter)
 
 -- a body, or the bytes before its fault, is not longer than the text of its URL
-pub body_within_text : {t : List ℕ} {url : DataUrl} → IsUrlOf t url → length (outcome_bytes (url_body url)) ≤ length t
+pub body_within_text : {t : List ℕ} (url : DataUrl) → IsUrlOf t url → length (outcome_bytes (url_body url)) ≤ length t
 unfolding tail_of trimmed_text
-body_within_text {t} {url} h =
+body_within_text {t} url h =
     let cut = ap length (is_cut 44 (trimmed_text t) (url_tail url) h.tail_is).joined in
     grind (arith, body_within_tail url, length-append, length-take, length-drop)

@@ -1,5 +1,6 @@
 -- The stages of the Standard, from the input to its record. For `DataUrl::process`.
-use Rattle.std.proofs.Common.{Option, unwrap_or, get_or-drop, get_or-take, length-drop, take-append-drop, length-take}
+use Rattle.std.proofs.Common.{Err, Ok, Result, ◌==◌, true}
+use Rattle.std.proofs.Common.{Option, unwrap_or, get_or-drop, get_or-take, length-append, length-drop, take-append-drop, length-take}
 use Rattle.std.proofs.Common.{Some, refl, sym, ap, ◌∙◌, inl, inr, eqb-true, subst, arith, map, codes, ◌≢◌, is_some}
 use Rattle.std.proofs.Common.{drop_at, take_at, ◌≡◌, ℕ, suc, ◌<◌, ◌≤◌, Bool, false, List, [], ◌∷◌, ◌++◌, length, get_or}
 use Rattle.std.proofs.{Common.{take, drop, None}, lemmas.Slice.Eq.{bytes_eq-Decides}, Math.Seq.{drop-append_seam}}
@@ -8,12 +9,14 @@ use Rattle.std.proofs.lemmas.List.{get_or-reverse, Elements.{All-from_recursion,
 use Rattle.std.proofs.lemmas.List.{get_or_past, length-reverse, length-map}
 use Rattle.std.specs.{Option.{option_map}, Char.{to_ascii_lowercase}, List.{prefix_len, suffix_len, AllByRecursion}}
 use Rattle.std.specs.Str.{chars}
-use Rattle.data_url.specs.{DataUrl.{IsAcceptable, IsUrlOf, is_base64, mime_of, url_tail}, declared.DataUrl.{DataUrl}}
+use Rattle.data_url.specs.{DataUrl.{IsAcceptable, IsUrlOf, IsUrlWithParts, url_tail}}
+use Rattle.data_url.specs.declared.DataUrl.{DataUrl}
 use Rattle.data_url.specs.Fetch.{NoScheme, outcome, plain_body, staged, before_base64, has_base64_suffix, media_of}
 use Rattle.data_url.specs.Fetch.{mime_text, with_plain, Accepted, NoComma, is_space, stripped_header, encoded_body}
 use Rattle.data_url.specs.{Fetch.{header_of, staged_front, tail_of}, Mime.{HasNoRecord, Record, default_record}}
-use Rattle.data_url.specs.{Mime.{BeginsParameters, IsHead, IsRecordOfParts}, MimeType.{record_of}}
+use Rattle.data_url.specs.{Mime.{BeginsParameters, IsHead, IsRecordOfParts}}
 use Rattle.data_url.specs.{Steps.Split.{HasNoScheme, IsHeaderAndTail, IsSchemeAndRest}, Percent.{percent_decoding}}
+use Rattle.data_url.specs.Steps.MimeParts.{WritesParts}
 use Rattle.data_url.specs.{Steps.Header.{IsPrintable, header_text, IsHeaderOf, IsRecordFor}, Url.{before, after}}
 use Rattle.data_url.specs.Url.{is_c0_control_or_space, percent_encoding, trimmed_text, after_scheme, cleaned_text}
 use Rattle.data_url.specs.Url.{without_tabs_and_newlines, fragment, front, serialised, in_fragment_set}
@@ -230,6 +233,29 @@ suffix_is header s o m p e f h = grind (arith, trimmed_is_stripped header p)
 pub parts_for : {s x a b c : List ℕ} (m : Record) → s ≡ x → IsHead s a b c → IsRecordOfParts a b c m → IsRecordFor x m
 parts_for {s} {x} {a} {b} {c} m e h p = grind (arith, parses_parts s a b c m h p, head_wellformed h p)
 
+-- a text of no bytes
+pub no_bytes : (s : List ℕ) → (length s == 0) ≡ true → s ≡ []
+no_bytes [] h = refl
+no_bytes (c ∷ s) h = absurd (grind arith)
+
+-- an empty text has no '/'
+no_record_of_none : HasNoRecord []
+no_record_of_none m h =
+    let after = 47 ∷ (h.subtype ++ (h.head.gap ++ h.parameters)) in
+    omega (arith, ap length h.head.joined, length-append h.type_ after)
+
+-- an empty header is that of the default record, and of a body that is not base64
+pub empty_header : IsHeaderOf (header_text (without_tabs_and_newlines [])) default_record false
+unfolding on_literals
+empty_header = rw (dropped_nil, header_nil)
+    (record { record_is = default_for [] default_record no_record_of_none refl; base64_is = refl })
+
+-- what is written of a record is so of any record of which something weaker is true
+pub parts_written : {E : Type 0} {P Q : Record → Type 0} (before after : List ℕ) (r : Result ℕ E)
+    → ((m : Record) → P m → Q m) → WritesParts P before after r → WritesParts Q before after r
+parts_written before after (Ok len) f h = (h.0, f h.0 h.1, h.2)
+parts_written before after (Err e) f h = (h.0, f h.0 h.1, h.2, h.3)
+
 -- a text with ';' at index 0 begins with ';'
 pub begins_at : (s : List ℕ) → get_or s 0 0 ≡ 59 → BeginsParameters s
 begins_at [] h = tt
@@ -269,13 +295,13 @@ pub is_acceptable : (t rest header tail : List ℕ) → IsBytes (trimmed_text t)
 is_acceptable t rest header tail b s h = subst IsAcceptable (sym (stages_accepted t rest header tail b s h
     (has_base64_suffix (header_text (without_tabs_and_newlines header))) refl)) tt
 
--- u is the URL of the scheme, a header, the first comma, and its tail, if its record and flag are those of the header
-pub is_url_of : (t rest header : List ℕ) (u : DataUrl) → IsBytes (trimmed_text t)
-    → IsSchemeAndRest (trimmed_text t) rest → IsHeaderAndTail rest header (url_tail u)
-    → IsHeaderOf (header_text (without_tabs_and_newlines header)) (record_of (mime_of u)) (is_base64 u) → IsUrlOf t u
-is_url_of t rest header u b s h k =
-    let a = is_accepted t rest header (url_tail u) (rest_bytes t rest b s) s h in
-    grind (arith, stages_accepted t rest header (url_tail u) b s h (is_base64 u) k.base64_is)
+-- a text of the scheme, a header, the first comma, and a tail is a URL with the record and the flag of the header
+pub is_url_with : (t rest header : List ℕ) {tail : List ℕ} {m : Record} {base64 : Bool} → IsBytes (trimmed_text t)
+    → IsSchemeAndRest (trimmed_text t) rest → IsHeaderAndTail rest header tail
+    → IsHeaderOf (header_text (without_tabs_and_newlines header)) m base64 → IsUrlWithParts t m base64 tail
+is_url_with t rest header {tail} {base64 = base64} b s h k =
+    let a = is_accepted t rest header tail (rest_bytes t rest b s) s h in
+    grind (arith, stages_accepted t rest header tail b s h base64 k.base64_is)
 
 -- if each number of a text is below 256, the trimmed text is a text of bytes
 pub bytes_trimmed : (t : List ℕ) → ((i : ℕ) → get_or t i 0 < 256) → IsBytes (trimmed_text t)

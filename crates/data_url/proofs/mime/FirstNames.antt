@@ -286,6 +286,13 @@ pub keeps_end : {whole rest : List ℕ} {pairs : List Pair} → KeepsOn whole re
 keeps_end {whole} {rest = []} {pairs = pairs} k w e = grind (arith, items_in, has_items, append-nil)
 keeps_end {rest = c ∷ rest} k w e = grind arith
 
+-- if the pairs are more than eight, more than eight are kept of the items of the whole text
+pub keeps_many : {whole rest : List ℕ} {pairs : List Pair} → KeepsOn whole rest pairs → BeginsParameters whole
+    → 8 < length pairs → (items : List Item) × Items whole items × (8 < length (kept_pairs items))
+keeps_many {whole} {rest} {pairs} k w l =
+    let more = first_of_each_name pairs (valid_pairs (items_in (length rest) rest)) in
+    (items_in (length whole) whole, has_items whole w, omega (arith, l, ap length k.kept, length-append pairs more))
+
 -- if there are no more than `LOOKED_THROUGH` pairs, none of the later pairs has a name
 pub few_names : (n : List ℕ) (pairs : List Pair) → length pairs ≤ LOOKED_THROUGH
     → has_name n (drop LOOKED_THROUGH pairs) ≡ false

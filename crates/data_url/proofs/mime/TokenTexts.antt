@@ -356,7 +356,7 @@ unescaped_scalars false (c ∷ cs) h = grind (arith, unescaped_scalars false cs,
 
 module _ {bs v : List ℕ} (u : IsUtf8 bs) (e : v ≡ unescaped false bs) where
   -- so the value of the bytes of a text are the bytes of its value
-  value_encodes : encode_utf8_all (unescaped false (chars bs)) ≡ v
+  pub value_encodes : encode_utf8_all (unescaped false (chars bs)) ≡ v
   value_encodes = sym (e ∙ ap (unescaped false) (sym (encodes-chars bs u)) ∙ unescaped_encodes false (chars bs))
 
   -- they are UTF-8

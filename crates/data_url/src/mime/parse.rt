@@ -28,12 +28,12 @@ pub(crate) struct Head<'a> {
 
 /// One parameter, as it is in the text, and the text after it.
 #[derive(Clone, Copy)]
-struct Parameter<'a> {
-    name: &'a str,
+pub(super) struct Parameter<'a> {
+    pub(super) name: &'a str,
     /// Whether the name is not empty and has only token code points.
-    is_token: bool,
-    value: Value<'a>,
-    rest: &'a str,
+    pub(super) is_token: bool,
+    pub(super) value: Value<'a>,
+    pub(super) rest: &'a str,
 }
 
 impl<'a> Head<'a> {
@@ -91,7 +91,7 @@ pub(crate) fn plain_head(parameters: &str) -> Head<'_>
 }
 
 /// Returns the parameter that a text begins with, after its `;`.
-fn read_parameter(text: &str) -> Parameter<'_>
+pub(super) fn read_parameter(text: &str) -> Parameter<'_>
     ensures token { result.is_token ≡ is_token_text (chars result.name.now) }
     ensures pair { pair_in result ≡ valid_of (item_in (chars text.now)) }
     ensures rest { chars result.rest.now ≡ (reading_in (chars text.now)).rest }

@@ -1,9 +1,9 @@
 //! Values of parameters, as slices of a text and as texts of their own.
 #![tactic(auto, using(crate::proofs::mime::FirstNames::lower_chars, crate::proofs::mime::Parsing::quotable_values))]
 
-ghost use Rattle.std.specs.Prelude.{◌≡◌, ◌<◌, ◌≤◌, ◌+◌, ◌-◌, ◌++◌, IfOk, IsTrue, drop, false, length, map, take, true};
+ghost use Rattle.std.specs.Prelude.{◌≡◌, ◌<◌, ◌≤◌, ◌+◌, ◌-◌, ◌++◌, IfOk, IsTrue, MatchBool, None, Some, drop, false, length, map, take, true};
 ghost use Rattle.std.specs.{Char.{to_ascii_lowercase}, List.{list_all}, Option.{option_map}, Str.{chars}};
-ghost use Rattle.data_url.specs.{CodePoints.{is_quotable}, Mime.{is_token_text}, Steps.Parsing.{unescaped, value_of}, MimeType.{code_points}};
+ghost use Rattle.data_url.specs.{CodePoints.{is_quotable}, Mime.{is_token_text}, Steps.Few.{value_text}, Steps.Parsing.{unescaped, value_of}, MimeType.{code_points}};
 
 use crate::classes::lanes::{ROW, is_unmarked, marks, put, repeated, row};
 use crate::classes::{Class, ESCAPED, has, long_span};
@@ -23,6 +23,19 @@ pub(super) enum Value<'a> {
 }
 
 impl<'a> Value<'a> {
+    /// Returns whether the value is there and has quoted-string code points alone. `\` is one of them, so a quoted string is tested
+    /// before its escapes are removed.
+    pub(super) fn is_valid(&self) -> bool
+        ensures { MatchBool result (value_of self.now ≡ Some (value_text self.now))
+            (value_of self.now ≡ None) }
+    {
+        match self {
+            Value::Missing => false,
+            Value::Plain(_) => true,
+            Value::Verbatim(text) | Value::Quoted(text) => is_quotable(text),
+        }
+    }
+
     /// The value as a text of its own, if it is there and has quoted-string code points alone. It takes memory for that
     /// text. `\` is a quoted-string code point, so a quoted string is tested before its escapes are removed.
     pub(super) fn text(&self, alloc: Global) -> Result<Option<String>, AllocError>

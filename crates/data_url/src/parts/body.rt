@@ -42,12 +42,13 @@ pub enum Progress<'a> {
 
 impl<'a> Body<'a> {
     ghost use Rattle.std.specs.Prelude.{MatchOption};
-    ghost use Rattle.data_url.specs.{DataUrl.{url_body, url_tail}, Parts.{IsBodyAt, WritesPart, is_resumable, rest_of}};
+    ghost use Rattle.data_url.specs.{DataUrl.{is_base64, url_body, url_tail}, Parts.{IsBodyAt, WritesPart, is_resumable, rest_of}};
 
     /// Returns the body of a URL, of which nothing was decoded yet.
     pub fn new(url: &DataUrl<'a>) -> Body<'a>
         ensures body { rest_of result ≡ url_body url.now }
         ensures tail { result.tail.now ≡ url_tail url.now }
+        ensures base64 { result.base64 ≡ is_base64 url.now }
         ensures start { result.place ≡ 0 }
     {
         Body {
@@ -88,6 +89,13 @@ impl<'a> Body<'a> {
         ensures { result.now ≡ self.now.tail.now }
     {
         self.tail
+    }
+
+    /// Returns whether the body is base64.
+    pub fn is_base64(&self) -> bool
+        ensures { result ≡ self.now.base64 }
+    {
+        self.base64
     }
 
     /// Returns the place in the tail where the body goes on, in bytes.

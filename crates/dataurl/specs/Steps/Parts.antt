@@ -17,7 +17,7 @@ AnyAnswer x = Unit {0}
 
 -- the URL of a text, or why the text is not a data: URL
 pub data IsUrlFor (x : List ℕ) : Result DataUrl Fault → Type 0 where
-  url_is : {url : DataUrl} → IsUrlOf x url → IsUrlFor x (Ok url)
+  url_is : (url : DataUrl) → IsUrlOf x url → IsUrlFor x (Ok url)
   no_scheme_is : staged x ≡ NoScheme → IsUrlFor x (Err NotADataUrl)
   no_comma_is : staged x ≡ no_comma → IsUrlFor x (Err NoComma)
   no_url_memory : IsAcceptable (staged x) → IsUrlFor x (Err Memory)

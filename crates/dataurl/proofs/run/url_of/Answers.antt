@@ -5,7 +5,7 @@ use Rattle.dataurl.specs.Steps.Parts.{no_comma_is, no_scheme_is, no_url_memory, 
 use Rattle.dataurl.proofs.run.url_of.Goals as goal
 
 pub returns-in-Ok : goal.returns-in-Ok
-returns-in-Ok c = url_is c.in-Ok.ensures
+returns-in-Ok c = url_is c.in-Ok.url c.in-Ok.ensures
 
 pub returns-in-Err-NotADataUrl : goal.returns-in-Err-NotADataUrl
 returns-in-Err-NotADataUrl c =

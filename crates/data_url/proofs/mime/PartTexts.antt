@@ -1,0 +1,291 @@
+-- Parts that are written, one after another. For `in_parts.rt`.
+use Rattle.std.proofs.Common.{◌≡◌, ◌+◌, ◌^◌, ◌≤◌, ◌<◌, ◌==◌, ◌&&◌, ◌++◌, ◌∷◌, [], Bool, List, ap, arith, drop}
+use Rattle.std.proofs.Common.{Err, Ok, Result, inr, if◌then◌else◌, false, get_or, length, set, length-append, length-drop, length-take, map, not, refl, sym}
+use Rattle.std.proofs.Common.{take, true, ◌∙◌, ℕ, ap₂, append_assoc, append-nil, encode_utf8_all, suc, zero, subst, codes}
+use Rattle.std.proofs.lemmas.List.{drop_all, drop_more, length-map, map-append, take_more}
+use Rattle.std.proofs.Common.{length-take-le}
+use Rattle.std.proofs.Math.Seq.{set-append_seam}
+use Rattle.std.proofs.lemmas.Slice.{drop-append-drop}
+use Rattle.std.proofs.lemmas.Str.{encodes-chars, encodes-IsAscii}
+use Rattle.std.proofs.lemmas.Str.Ascii.{IsAscii-map, lowercase_ascii}
+use Rattle.std.proofs.Math.Seq.{take-append_seam}
+use Rattle.std.specs.Int.{to_le_bytes, w64}
+use Rattle.std.specs.{Char.{to_ascii_lowercase}, List.{flat_map}, Str.{IsAscii, IsUtf8, chars}}
+use Rattle.data_url.specs.Mime.{IsRecordOfParts, Item, Items, Pair as MimePair, Record, default_record}
+use Rattle.data_url.specs.Mime.{is_token_text, kept_pairs}
+use Rattle.data_url.specs.declared.mime.parse.Head.{Head}
+use Rattle.data_url.specs.Parts.{WritesIfFits, part, parts_of, parts_of_pair}
+use Rattle.data_url.specs.Steps.{MimeParts.{Adds, Puts, WritesParts, WritesRecord, head_record}, Parsing.{unescaped}, Parts.{Writes}}
+use Rattle.data_url.proofs.examples.Literals.{on_literals}
+use Rattle.data_url.proofs.mime.TokenTexts.{bytes_of_ascii, token_text_ascii, value_encodes}
+
+-- Pieces
+
+-- two pieces that fit, one after the other
+writes_both : {a b old mid new : List ℕ} {at k end : ℕ} → Writes a old at mid k → Writes b mid k new end
+    → Writes (a ++ b) old at new end
+writes_both {a} {b} {old} {mid} {new} {at} {k} {end} v w = record {
+  fits = λ f.
+      let size = length-append a b in
+      let first = v.fits (omega (arith, f, size)) in
+      let p = take at old ++ a in
+      let e : mid ≡ p ++ drop k old = first.1 ∙ sym (append_assoc (take at old) a (drop k old)) in
+      let n : length p ≡ k = grind (arith, first.0, length-append, length-take, size) in
+      let same : length mid ≡ length old = grind (arith, e, n, length-append, length-drop, size, first.0) in
+      let second = w.fits (omega (arith, f, size, first.0, same)) in
+      let t : take k mid ≡ p = grind (arith, e, n, take-append_seam) in
+      let d : drop end mid ≡ drop end old = grind (arith, e, n, second.0, drop-append-drop) in
+      let joined = append_assoc (take at old) a (b ++ drop end old) in
+      (omega (arith, size, first.0, second.0), second.1 ∙ cc (t, d, joined, append_assoc a b (drop end old)));
+}
+
+-- two pieces, one after the other
+pub puts_both : {a b old mid new : List ℕ} {at k end : ℕ} → Puts a old at mid k → Puts b mid k new end
+    → Puts (a ++ b) old at new end
+puts_both {a} {b} v w = record {
+  end_is = omega (arith, length-append a b, v.end_is, w.end_is);
+  writes = writes_both v.writes w.writes;
+}
+
+-- Texts
+
+-- a token text in lower case is encoded as its bytes in lower case
+pub lower_encoded : (bs : List ℕ) → IsUtf8 bs → is_token_text (chars bs) ≡ true
+    → encode_utf8_all (map to_ascii_lowercase (chars bs)) ≡ map to_ascii_lowercase bs
+lower_encoded bs u h =
+    let ascii = token_text_ascii (chars bs) h in
+    let same = bytes_of_ascii bs u ascii in
+    let lower : IsAscii (map to_ascii_lowercase (chars bs)) = search (arith, IsAscii-map, lowercase_ascii) in
+    encodes-IsAscii (map to_ascii_lowercase (chars bs)) lower ∙ ap (map to_ascii_lowercase) (sym same)
+
+-- a token text is encoded as it is, as a part
+ascii_part : (s : List ℕ) → is_token_text s ≡ true → part s ≡ part (encode_utf8_all s)
+ascii_part s h = ap part (sym (encodes-IsAscii s (token_text_ascii s h)))
+
+-- a part: its length, and then its text
+pub puts_part : (text size : List ℕ) {old mid new : List ℕ} {at k end : ℕ} → size ≡ to_le_bytes w64 (length text)
+    → Puts size old at mid k → Puts text mid k new end → Puts (part text) old at new end
+unfolding part
+puts_part text size {old} {mid} {at = at} {k = k} e v w =
+    puts_both (subst (λ x. Puts x old at mid k) e v) w
+
+-- a part, whose text is encoded
+pub puts_text : (text bytes size : List ℕ) {old mid new : List ℕ} {at k end : ℕ} → IsUtf8 text → bytes ≡ text
+    → size ≡ to_le_bytes w64 (length text) → Puts size old at mid k → Puts bytes mid k new end
+    → Puts (part (encode_utf8_all (chars text))) old at new end
+puts_text text bytes size {old} {mid} {new} {at} {k} {end} u e f v w =
+    subst (λ x. Puts (part x) old at new end) (sym (encodes-chars text u))
+    (puts_part text size f v (subst (λ x. Puts x mid k new end) e w))
+
+-- a part in lower case, whose text is encoded
+pub puts_lower_part : (text bytes size : List ℕ) {old mid new : List ℕ} {at k end : ℕ} → IsUtf8 text
+    → is_token_text (chars text) ≡ true → bytes ≡ text → size ≡ to_le_bytes w64 (length text)
+    → Puts size old at mid k → Puts (map to_ascii_lowercase bytes) mid k new end
+    → Puts (part (encode_utf8_all (map to_ascii_lowercase (chars text)))) old at new end
+puts_lower_part text bytes size {old} {mid} {new} {at} {k} {end} u h e f v w =
+    let lower = map to_ascii_lowercase text in
+    let w' : Puts lower mid k new end = subst (λ x. Puts (map to_ascii_lowercase x) mid k new end) e w in
+    subst (λ x. Puts (part x) old at new end) (sym (lower_encoded text u h))
+    (puts_part lower size (f ∙ ap (to_le_bytes w64) (sym (length-map text to_ascii_lowercase))) v w')
+
+-- the first bytes of a text are written in lower case
+abbrev pub Lowers : List ℕ → ℕ → List ℕ → ℕ → List ℕ → Type 0
+Lowers bytes at old n new = new ≡ take at old ++ (map to_ascii_lowercase (take n bytes) ++ drop (at + n) old)
+
+-- one byte more
+pub lowers_next : (bytes old : List ℕ) (at n : ℕ) {new : List ℕ} → at + length bytes ≤ length old → n < length bytes
+    → Lowers bytes at old n new → Lowers bytes at old (n + 1) (set new (at + n) (to_ascii_lowercase (get_or bytes n 0)))
+lowers_next bytes old at n {new} f l h =
+    let done = map to_ascii_lowercase (take n bytes) in
+    let b = to_ascii_lowercase (get_or bytes n 0) in
+    let front = take at old ++ done in
+    let size : length front ≡ at + n =
+    length-append (take at old) done ∙ omega (
+      arith,
+      length-take-le at old (omega (arith, f)),
+      length-map (take n bytes) to_ascii_lowercase,
+      length-take-le n bytes (omega (arith, l)),
+    ) in
+    let rest : drop (at + n) old ≡ get_or old (at + n) 0 ∷ drop (at + n + 1) old = drop_more old (at + n) 0
+    (omega (arith, f, l)) in
+    let new_is : new ≡ front ++ get_or old (at + n) 0 ∷ drop (at + n + 1) old =
+    h ∙ sym (append_assoc (take at old) done (drop (at + n) old)) ∙ ap (λ x. front ++ x) rest in
+    let lower : map to_ascii_lowercase (take (n + 1) bytes) ≡ done ++ (b ∷ []) =
+    ap (map to_ascii_lowercase) (take_more bytes n 0 l) ∙ map-append to_ascii_lowercase (take n bytes) (get_or bytes n 0 ∷ [])
+    in
+    ap₂ (λ x i. set x i b) new_is (sym size)
+    ∙ set-append_seam front (get_or old (at + n) 0) (drop (at + n + 1) old) b
+    ∙ append_assoc (take at old) done (b ∷ drop (at + n + 1) old)
+    ∙ ap (λ x. take at old ++ x) (sym (append_assoc done (b ∷ []) (drop (at + n + 1) old)))
+    ∙ ap₂ (λ x i. take at old ++ (x ++ drop i old)) (sym lower) (omega arith)
+
+-- Values of quoted strings
+
+-- the value of the bytes before the index is written, and the value of the rest follows it
+pub record Unescaped (quoted : List ℕ) (is_escaped : Bool) (index : ℕ) (old : List ℕ) (at : ℕ) (new : List ℕ) (end : ℕ)
+    : Type 0 where
+  pub read : List ℕ
+  pub puts : Puts read old at new end
+  pub value_is : read ++ unescaped is_escaped (drop index quoted) ≡ unescaped false quoted
+
+-- the value of a quoted string is not longer than its text
+unescaped_short : (e : Bool) (s : List ℕ) → length (unescaped e s) ≤ length s + 1
+unescaped_short false [] = omega arith
+unescaped_short true [] = omega arith
+unescaped_short false (c ∷ s) = grind (arith, unescaped_short false s, unescaped_short true s)
+unescaped_short true (c ∷ s) = grind (arith, unescaped_short false s)
+
+-- the value of a quoted string, as a part, whose text is encoded
+pub puts_quoted : (quoted bytes size : List ℕ) {old mid new out : List ℕ} {at k end len : ℕ} → IsUtf8 quoted
+    → bytes ≡ quoted → length bytes < 2 ^ 63 → Puts (unescaped false bytes) [] 0 out len → size ≡ to_le_bytes w64 len
+    → Puts size old at mid k → Puts (unescaped false bytes) mid k new end
+    → Puts (part (encode_utf8_all (unescaped false (chars quoted)))) old at new end
+puts_quoted quoted bytes size {old} {mid} {new} {at = at} {k = k} {end = end} {len = len} u e l counted f v w =
+    let value = unescaped false bytes in
+    let same : len ≡ length value = omega (arith, counted.end_is, unescaped_short false bytes) in
+    let text : value ≡ encode_utf8_all (unescaped false (chars quoted)) =
+    sym (value_encodes u (ap (unescaped false) e)) in
+    subst (λ x. Puts (part x) old at new end) text
+    (puts_part value size (f ∙ ap (to_le_bytes w64) same) v w)
+
+module _ {quoted old mid : List ℕ} {e : Bool} {i at k : ℕ} (h : Unescaped quoted e i old at mid k) where
+  module _ {e' : Bool} (l : i < length quoted) (f : e' ≡ ((get_or quoted i 0 == 92) && not e)) where
+    -- the value of the bytes from the index on, from the value of those after it
+    value_next : unescaped e (drop i quoted) ≡ (if e' then unescaped true (drop (i + 1) quoted)
+        else get_or quoted i 0 ∷ unescaped false (drop (i + 1) quoted))
+    value_next = grind (arith, drop_more)
+
+    -- a '\\' that escapes the next byte is not written
+    pub unescapes_past : e' ≡ true → Unescaped quoted e' (i + 1) old at mid k
+    unescapes_past t = record { read = h.read; puts = h.puts; value_is = grind (arith, value_next, h.value_is) }
+
+    -- any other byte is written
+    pub unescapes_byte : {new : List ℕ} {end : ℕ} → e' ≡ false → Puts (get_or quoted i 0 ∷ []) mid k new end
+        → Unescaped quoted e' (i + 1) old at new end
+    unescapes_byte t v = record {
+      read = h.read ++ (get_or quoted i 0 ∷ []);
+      puts = puts_both h.puts v;
+      value_is = grind (arith, value_next, h.value_is, append_assoc);
+    }
+
+  -- at the end, a '\\' that escapes nothing is written
+  pub unescapes_last : {new : List ℕ} {end : ℕ} → length quoted ≤ i → e ≡ true → Puts (92 ∷ []) mid k new end
+      → Puts (unescaped false quoted) old at new end
+  unescapes_last {new} {end} l t v =
+      let none : drop i quoted ≡ [] = grind (arith, drop_all) in
+      let all : h.read ++ (92 ∷ []) ≡ unescaped false quoted = cc (h.value_is, none, t) in
+      subst (λ x. Puts x old at new end) all (puts_both h.puts v)
+
+-- Pairs
+
+-- the parts of the first pairs are written
+abbrev pub PutsPairs : List MimePair → ℕ → List ℕ → ℕ → List ℕ → ℕ → Type 0
+PutsPairs pairs n old at new end = Puts (flat_map parts_of_pair (take n pairs)) old at new end
+
+-- the parts of one pair more
+parts_next : (pairs : List MimePair) (i : ℕ) → i < length pairs → flat_map parts_of_pair (take (suc i) pairs)
+    ≡ flat_map parts_of_pair (take i pairs) ++ parts_of_pair (get_or pairs i ([], []))
+parts_next [] i l = absurd (omega arith)
+parts_next (p ∷ pairs) zero l = append-nil (parts_of_pair p)
+parts_next (p ∷ pairs) (suc i) l = ap (λ x. parts_of_pair p ++ x) (parts_next pairs i (omega arith))
+    ∙ sym (append_assoc (parts_of_pair p) (flat_map parts_of_pair (take i pairs))
+    (parts_of_pair (get_or pairs i ([], []))))
+
+-- the length of a part
+pub part_length : (text : List ℕ) → length (part text) ≡ 8 + length text
+unfolding part
+part_length text = omega arith
+
+-- the lengths of the parts of one pair more
+pub adds_pair : (pairs : List MimePair) (i at : ℕ) {k k' end : ℕ} (p : MimePair)
+    → Adds (flat_map parts_of_pair (take i pairs)) at k → i < length pairs → get_or pairs i ([], []) ≡ p
+    → Adds (part (encode_utf8_all p.0)) k k' → Adds (part (encode_utf8_all p.1)) k' end
+    → Adds (flat_map parts_of_pair (take (i + 1) pairs)) at end
+adds_pair pairs i at p h l e v w =
+    let one : suc i ≡ i + 1 = omega arith in
+    let done = flat_map parts_of_pair (take i pairs) in
+    let more = ap length (parts_next pairs i l) ∙ length-append done (parts_of_pair (get_or pairs i ([], [])))
+    ∙ ap (λ q. length done + length (parts_of_pair q)) e in
+    omega (
+      arith,
+      h,
+      v,
+      w,
+      more,
+      ap (λ n. length (flat_map parts_of_pair (take n pairs))) one,
+      length-append (part (encode_utf8_all p.0)) (part (encode_utf8_all p.1)),
+    )
+
+-- one pair more
+pub puts_pair : (pairs : List MimePair) (i : ℕ) {old mid mid' new : List ℕ} {at k k' end : ℕ} (p : MimePair)
+    (a b : List ℕ) → PutsPairs pairs i old at mid k → i < length pairs → get_or pairs i ([], []) ≡ p
+    → encode_utf8_all p.0 ≡ a → encode_utf8_all p.1 ≡ b → Puts (part a) mid k mid' k' → Puts (part b) mid' k' new end
+    → PutsPairs pairs (i + 1) old at new end
+puts_pair pairs i {old} {new = new} {at = at} {end = end} p a b h l e f g v w =
+    let one : suc i ≡ i + 1 = omega arith in
+    let done = flat_map parts_of_pair (take i pairs) in
+    let more : done ++ (part a ++ part b) ≡ flat_map parts_of_pair (take (i + 1) pairs) =
+    ap₂ (λ x y. done ++ (part x ++ part y)) (sym f) (sym g) ∙ ap (λ q. done ++ parts_of_pair q) (sym e)
+    ∙ sym (parts_next pairs i l) ∙ ap (λ n. flat_map parts_of_pair (take n pairs)) one in
+    subst (λ x. Puts x old at new end) more (puts_both h (puts_both v w))
+
+-- The default record
+
+-- the parts of the default record
+pub default_parts : part (codes "text") ++ (part (codes "plain") ++ (part (codes "charset") ++ part (codes "US-ASCII")))
+    ≡ parts_of default_record
+unfolding on_literals
+default_parts = cc (
+  ascii_part (codes "text") refl,
+  ascii_part (codes "plain") refl,
+  ascii_part (codes "charset") refl,
+  ascii_part (codes "US-ASCII") refl,
+  append-nil (part (encode_utf8_all (codes "charset")) ++ part (encode_utf8_all (codes "US-ASCII"))),
+)
+
+-- Results
+
+-- parts that fit an output and were put at its start
+pub written_fits : {bytes old new : List ℕ} {len end : ℕ} → len ≡ length bytes → len < 2 ^ 63 → len ≤ length old
+    → Puts bytes old 0 new end → WritesIfFits bytes old new len
+written_fits {bytes} {old} {new} {len} {end} e s l v =
+    let w = v.writes.fits (omega (arith, e, l)) in
+    record {
+      len_is = e;
+      small = s;
+      fits = λ f. w.1 ∙ ap (λ n. bytes ++ drop n old) (omega (arith, w.0));
+      is_too_small = λ f. absurd (omega (arith, e, l, f));
+    }
+
+-- parts that do not fit an output, which did not change
+pub written_not : {bytes old new : List ℕ} {len : ℕ} → len ≡ length bytes → len < 2 ^ 63 → length old < len → new ≡ old
+    → WritesIfFits bytes old new len
+written_not e s l same =
+    record { len_is = e; small = s; fits = λ f. absurd (omega (arith, e, l, f)); is_too_small = λ f. same }
+
+-- one piece that is put at the start of an output, which does not change if the piece does not fit
+pub written_put : {bytes old new : List ℕ} {len : ℕ} → length bytes < 2 ^ 63 → Puts bytes old 0 new len
+    → (length old < 0 + length bytes → new ≡ old) → WritesIfFits bytes old new len
+written_put {bytes} {old} {new} {len} s v stays = record {
+  len_is = omega (arith, s, v.end_is);
+  small = omega (arith, s, v.end_is);
+  fits = λ f.
+      let w = v.writes.fits (omega (arith, f)) in
+      w.1 ∙ ap (λ n. bytes ++ drop n old) (omega (arith, w.0));
+  is_too_small = λ f. stays (omega (arith, f));
+}
+
+-- Records
+
+-- the record of a type, a subtype and the pairs that are kept of the items of the parameters is that of these parts
+pub record_of_head : (h : Head) (items : List Item) (pairs : List MimePair) → Items (chars h.parameters.now) items
+    → pairs ≡ kept_pairs items → IsRecordOfParts (chars h.type_.now) (chars h.subtype.now) (chars h.parameters.now)
+    (head_record h pairs)
+record_of_head h items pairs i e =
+    record { items = items; items_are = i; type_is = refl; subtype_is = refl; parameters_are = e }
+
+-- a record that is written, or is too long
+pub record_written : {E : Type 0} (Is : Record → Type 0) (m : Record) (before after : List ℕ) (r : Result ℕ E) → Is m
+    → WritesRecord m before after r → WritesParts Is before after r
+record_written Is m before after (Ok len) is h = (m, is, h)
+record_written Is m before after (Err e) is h = (m, is, inr h.0, h.1)

@@ -1,0 +1,12 @@
+use Rattle.std.{proofs.Common.{[], arith, map}, proofs.lemmas.List.{get_or-map, length-map}}
+use Rattle.data_url.specs.Steps.Few.{sliced_pair}
+use Rattle.data_url.proofs.mime.PartTexts.{adds_pair}
+use Rattle.data_url.proofs.mime.in_parts.add_slices.Goals as goal
+
+pub loop-slice-preserved : goal.loop-slice-preserved
+loop-slice-preserved c =
+    let slices = c.args.slices.now in
+    adds_pair (map (λ s. sliced_pair s) slices) c.loop-slice.slice-index c.args.len _ c.loop-slice.invariant
+    (omega (arith, length-map slices (λ s. sliced_pair s), c.loop-slice-test.true))
+    (get_or-map (λ s. sliced_pair s) slices c.loop-slice.slice-index _ ([], []) c.loop-slice-test.true)
+    c.add_lowercase-end.ensures c.add_value-end.ensures

@@ -1,0 +1,313 @@
+//! MIME types in parts: each text after its length.
+
+ghost use Rattle.std.specs.Prelude.{◌≡◌, ◌+◌, ◌<◌, IfErr, IfOk, IsTrue, List, encode_utf8_all, false, length, map};
+ghost use Rattle.std.specs.{Char.{to_ascii_lowercase}, List.{flat_map}, Str.{chars}};
+ghost use Rattle.data_url.specs.Mime.{BeginsParameters, IsRecordOfParts, default_record, is_token_text};
+ghost use Rattle.data_url.specs.Parts.{ReadsMimeType, WritesIfFits, part, parts_of, parts_of_pair};
+ghost use Rattle.data_url.specs.{MimeType.{pair_of}, Steps.Parsing.{unescaped}};
+ghost use Rattle.data_url.specs.Steps.{Few.{AreAllTokens, sliced_pair, value_text}, MimeParts.{Adds, HasTokens, Puts, WritesParts, WritesRecord, head_record, pairs_in}};
+
+use super::few::{FewParameters, NameAndValue};
+use super::parse::{Head, read_head, read_parameters};
+use super::values::Value;
+use super::{MimeFromStrError, MimeParsingError};
+use std::alloc::{AllocError, Global};
+
+/// How many bytes the length of a part has.
+const LENGTH: usize = 8;
+
+/// The most bytes that parts have together.
+const LONGEST: usize = 0x7fff_ffff_ffff_ffff;
+
+/// `text/plain;charset=US-ASCII` in parts.
+const DEFAULT: &[u8; 56] = b"\x04\0\0\0\0\0\0\0text\x05\0\0\0\0\0\0\0plain\
+\x07\0\0\0\0\0\0\0charset\x08\0\0\0\0\0\0\0US-ASCII";
+
+/// Writes bytes to an output at a place, if they fit. Returns the place after them, whether or not they fit; at most `usize::MAX`.
+#[inline(always)]
+fn put(output: &mut [u8], at: usize, bytes: &[u8]) -> usize
+    ensures puts { Puts bytes.now output.old at output.new result }
+    ensures stays { length output.old < at + length bytes.now → output.new ≡ output.old }
+{
+    let end = at.saturating_add(bytes.len());
+    if end <= output.len() {
+        output[at..end].copy_from_slice(bytes);
+    }
+    end
+}
+
+/// Puts a text, as a part.
+#[inline(always)]
+fn put_text(output: &mut [u8], at: usize, text: &str) -> usize
+    ensures { Puts (part (encode_utf8_all (chars text.now))) output.old at output.new result }
+{
+    let at = put(output, at, &text.len().to_le_bytes());
+    put(output, at, text.as_bytes())
+}
+
+/// Puts bytes in ASCII lower case. For texts as short as types and names, a loop is faster than a copy that is put into lower case.
+#[inline(always)]
+fn put_lower(output: &mut [u8], at: usize, bytes: &[u8]) -> usize
+    ensures { Puts (map to_ascii_lowercase bytes.now) output.old at output.new result }
+{
+    let end = at.saturating_add(bytes.len());
+    if end <= output.len() {
+        for (place, byte) in bytes.iter().enumerate() {
+            output[at + place] = byte.to_ascii_lowercase();
+        }
+    }
+    end
+}
+
+/// Puts a text of token code points in ASCII lower case, as a part.
+#[inline(always)]
+fn put_lowercase(output: &mut [u8], at: usize, text: &str) -> usize
+    requires { IsTrue (is_token_text (chars text.now)) }
+    ensures { Puts (part (encode_utf8_all (map to_ascii_lowercase (chars text.now)))) output.old at
+        output.new result }
+{
+    let at = put(output, at, &text.len().to_le_bytes());
+    put_lower(output, at, text.as_bytes())
+}
+
+/// Puts the text of a quoted string without the `\` before a code point.
+fn put_unescaped(output: &mut [u8], at: usize, quoted: &[u8]) -> usize
+    ensures { Puts (unescaped false quoted.now) output.old at output.new result }
+{
+    let mut end = at;
+    let mut is_escaped = false;
+    for byte in quoted {
+        is_escaped = *byte == b'\\' && !is_escaped;
+        if !is_escaped {
+            end = put(output, end, &[*byte]);
+        }
+    }
+    if is_escaped {
+        end = put(output, end, b"\\");
+    }
+    end
+}
+
+/// Puts the value of a quoted string, as a part.
+fn put_quoted(output: &mut [u8], at: usize, quoted: &str) -> usize
+    ensures { Puts (part (encode_utf8_all (unescaped false (chars quoted.now)))) output.old at
+        output.new result }
+{
+    let bytes = quoted.as_bytes();
+    let len = put_unescaped(&mut [], 0, bytes);
+    let at = put(output, at, &len.to_le_bytes());
+    put_unescaped(output, at, bytes)
+}
+
+/// Puts a value, as a part.
+#[inline(always)]
+fn put_value(output: &mut [u8], at: usize, value: &Value<'_>) -> usize
+    ensures { Puts (part (encode_utf8_all (value_text value.now))) output.old at output.new result }
+{
+    match value {
+        Value::Missing => put_text(output, at, ""),
+        Value::Plain(text) | Value::Verbatim(text) => put_text(output, at, text),
+        Value::Quoted(text) => put_quoted(output, at, text),
+    }
+}
+
+/// Puts the names and the values of parameters that are slices, as parts.
+fn put_slices(output: &mut [u8], at: usize, slices: &[NameAndValue<'_>]) -> usize
+    requires { AreAllTokens slices.now }
+    ensures { Puts (flat_map parts_of_pair (map (λ s. sliced_pair s) slices.now)) output.old at
+        output.new result }
+{
+    let mut end = at;
+    for slice in slices {
+        end = put_lowercase(output, end, slice.name);
+        end = put_value(output, end, &slice.value);
+    }
+    end
+}
+
+/// Puts the names and the values of the parameters of a record, as parts.
+fn put_pairs(output: &mut [u8], at: usize, pairs: &[(String, String)]) -> usize
+    ensures { Puts (flat_map parts_of_pair (map (λ p. pair_of p) pairs.now)) output.old at
+        output.new result }
+{
+    let mut end = at;
+    for (name, value) in pairs {
+        end = put_text(output, end, name);
+        end = put_text(output, end, value);
+    }
+    end
+}
+
+/// Adds the length of a text, as a part, to a length. The sum is at most `usize::MAX`.
+#[inline(always)]
+fn add_text(len: usize, text: &str) -> usize
+    ensures { Adds (part (encode_utf8_all (chars text.now))) len result }
+{
+    len.saturating_add(LENGTH).saturating_add(text.len())
+}
+
+/// Adds the length of a text of token code points in ASCII lower case, as a part, to a length.
+#[inline(always)]
+fn add_lowercase(len: usize, text: &str) -> usize
+    requires { IsTrue (is_token_text (chars text.now)) }
+    ensures { Adds (part (encode_utf8_all (map to_ascii_lowercase (chars text.now)))) len result }
+{
+    len.saturating_add(LENGTH).saturating_add(text.len())
+}
+
+/// Adds the length of a value, as a part, to a length.
+#[inline(always)]
+fn add_value(len: usize, value: &Value<'_>) -> usize
+    ensures { Adds (part (encode_utf8_all (value_text value.now))) len result }
+{
+    match value {
+        Value::Missing => add_text(len, ""),
+        Value::Plain(text) | Value::Verbatim(text) => add_text(len, text),
+        Value::Quoted(text) => put_quoted(&mut [], len, text),
+    }
+}
+
+/// Adds the lengths of names and values that are slices, as parts, to a length.
+fn add_slices(len: usize, slices: &[NameAndValue<'_>]) -> usize
+    requires { AreAllTokens slices.now }
+    ensures { Adds (flat_map parts_of_pair (map (λ s. sliced_pair s) slices.now)) len result }
+{
+    let mut end = len;
+    for slice in slices {
+        end = add_lowercase(end, slice.name);
+        end = add_value(end, &slice.value);
+    }
+    end
+}
+
+/// The parameters that are kept of a MIME type.
+#[derive(Clone, Copy)]
+enum Parameters<'a> {
+    /// As slices of the text.
+    OfText(&'a [NameAndValue<'a>]),
+    /// As in a record.
+    OfRecord(&'a [(String, String)]),
+}
+
+impl<'a> Head<'a> {
+    /// Puts the record of a MIME type with these parts and parameters at the start of an output.
+    fn put(&self, parameters: Parameters<'_>, output: &mut [u8]) -> usize
+        requires type_ { IsTrue (is_token_text (chars self.now.type_.now)) }
+        requires subtype { IsTrue (is_token_text (chars self.now.subtype.now)) }
+        requires tokens { HasTokens parameters }
+        ensures { Puts (parts_of (head_record self.now (pairs_in parameters.entry))) output.old 0
+            output.new result }
+    {
+        let at = put_lowercase(output, 0, self.type_);
+        let at = put_lowercase(output, at, self.subtype);
+        match parameters {
+            Parameters::OfText(slices) => put_slices(output, at, slices),
+            Parameters::OfRecord(pairs) => put_pairs(output, at, pairs),
+        }
+    }
+
+    /// Returns how many bytes the record of a MIME type with these parts and parameters has in parts, up to `usize::MAX`.
+    #[inline(always)]
+    fn len(&self, parameters: Parameters<'_>) -> usize
+        requires type_ { IsTrue (is_token_text (chars self.now.type_.now)) }
+        requires subtype { IsTrue (is_token_text (chars self.now.subtype.now)) }
+        requires tokens { HasTokens parameters }
+        ensures { Adds (parts_of (head_record self.now (pairs_in parameters.entry))) 0 result }
+    {
+        let len = add_lowercase(add_lowercase(0, self.type_), self.subtype);
+        match parameters {
+            Parameters::OfText(slices) => add_slices(len, slices),
+            Parameters::OfRecord(pairs) => put_pairs(&mut [], len, pairs),
+        }
+    }
+
+    /// Writes the record of a MIME type with these parts and parameters, in parts, to the start of an output that has room for it.
+    /// Returns how many bytes it has, or an error if they are more than `LONGEST`.
+    fn write_with(&self, parameters: Parameters<'_>, output: &mut [u8]) -> Result<usize, AllocError>
+        requires type_ { IsTrue (is_token_text (chars self.now.type_.now)) }
+        requires subtype { IsTrue (is_token_text (chars self.now.subtype.now)) }
+        requires tokens { HasTokens parameters }
+        ensures { WritesRecord (head_record self.now (pairs_in parameters.entry)) output.old
+            output.new result }
+    {
+        let len = self.len(parameters);
+        if len > LONGEST {
+            return Err(AllocError);
+        }
+        if len <= output.len() {
+            self.put(parameters, output);
+        }
+        Ok(len)
+    }
+
+    /// Writes the record of a MIME type with these parts, in parts, to the start of an output that has room for it. Returns how many
+    /// bytes it has. Allocates only if many parameters are kept.
+    pub(crate) fn write(&self, alloc: Global, output: &mut [u8]) -> Result<usize, AllocError>
+        requires type_ { IsTrue (is_token_text (chars self.now.type_.now)) }
+        requires subtype { IsTrue (is_token_text (chars self.now.subtype.now)) }
+        requires parameters { BeginsParameters (chars self.now.parameters.now) }
+        ensures { WritesParts (IsRecordOfParts (chars self.now.type_.now)
+            (chars self.now.subtype.now) (chars self.now.parameters.now)) output.old output.new
+            result }
+    {
+        if self.parameters.is_empty() {
+            return self.write_with(Parameters::OfText(&[]), output);
+        }
+        self.write_all(alloc, output)
+    }
+
+    /// Writes the record of a MIME type with these parts, as `write` does.
+    #[inline(never)]
+    fn write_all(&self, alloc: Global, output: &mut [u8]) -> Result<usize, AllocError>
+        requires type_ { IsTrue (is_token_text (chars self.now.type_.now)) }
+        requires subtype { IsTrue (is_token_text (chars self.now.subtype.now)) }
+        requires parameters { BeginsParameters (chars self.now.parameters.now) }
+        ensures { WritesParts (IsRecordOfParts (chars self.now.type_.now)
+            (chars self.now.subtype.now) (chars self.now.parameters.now)) output.old output.new
+            result }
+    {
+        let mut few = FewParameters::new();
+        if few.read(self.parameters) {
+            return self.write_with(Parameters::OfText(&few.slices[..few.len]), output);
+        }
+        let Ok(pairs) = read_parameters(alloc, self.parameters) else {
+            return Err(AllocError);
+        };
+        self.write_with(Parameters::OfRecord(&pairs), output)
+    }
+}
+
+/// Writes the record of a URL without a MIME type, in parts, to the start of an output that has room for it. Returns how many bytes it
+/// has.
+pub(crate) fn write_default(output: &mut [u8]) -> usize
+    ensures { WritesIfFits (parts_of default_record) output.old output.new result }
+{
+    put(output, 0, DEFAULT)
+}
+
+/// Parses a MIME type
+/// ([MIME Sniffing Standard, section 4.4](https://mimesniff.spec.whatwg.org/#parsing-a-mime-type)), as
+/// `Mime::from_str` does, and writes it in parts to the start of an output.
+///
+/// The parts are the type, the subtype, and the name and the value of each parameter, in UTF-8. Each part comes after
+/// its length in bytes, which takes eight bytes, the lowest first. Type, subtype and names are in ASCII lower case.
+///
+/// Returns how many bytes the parts have together. If the output has room for fewer, nothing is written.
+///
+/// Returns `Parsing` exactly if the text is not a MIME type. Allocates only for a MIME type with more than 8
+/// parameters. Returns `OutOfMemory` if that fails, or if the parts have 2 to the power of 63 bytes or more together.
+pub fn read_mime_type(
+    alloc: Global,
+    text: &str,
+    output: &mut [u8],
+) -> Result<usize, MimeFromStrError>
+    ensures { ReadsMimeType (chars text.now) output.old output.new result }
+{
+    let Some(head) = &read_head(text) else {
+        return Err(MimeFromStrError::Parsing(MimeParsingError(())));
+    };
+    match head.write(alloc, output) {
+        Ok(len) => Ok(len),
+        Err(AllocError) => Err(MimeFromStrError::OutOfMemory),
+    }
+}

@@ -1,0 +1,8 @@
+use Rattle.std.proofs.Common.{Err}
+use Rattle.data_url_c.specs.Gives.{GivesTypeInParts}
+use Rattle.data_url_c.specs.declared.refusal.Refusal.TheVariants.{NotUtf8}
+use Rattle.data_url_c.proofs.GivenLemmas.{answers}
+use Rattle.data_url_c.proofs.dataurl_type_parts.Goals as goal
+
+pub returns-in-None : goal.returns-in-None
+returns-in-None c = answers (GivesTypeInParts c.args.text.now) (Err NotUtf8) c.in-None.ensures c.answer.ensures
