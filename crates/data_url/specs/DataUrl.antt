@@ -43,8 +43,8 @@ fragment_text f = f.text.now
 abbrev pub IsFragmentOf : List ℕ → Option FragmentIdentifier → Type 0
 IsFragmentOf tail found = option_map fragment_text found ≡ after number_sign tail
 
--- the text t is accepted: the record is that of its header, and the flag says whether its body is base64. The body and the
--- fragment that the Standard defines can be read from the tail.
+-- the text t is accepted: the record is that of its header, and the flag says whether its body is base64. The body and
+-- the fragment that the Standard defines can be read from the tail.
 pub record IsUrlWithParts (t : List ℕ) (mime : Record) (base64 : Bool) (tail : List ℕ) : Type 0 where
   pub header : List ℕ
   pub header_is : header_of t ≡ Some header

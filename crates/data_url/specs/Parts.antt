@@ -166,8 +166,8 @@ parts_of m = part (encode_utf8_all m.type_)
 abbrev pub IsLong : Record → Type 0
 IsLong m = (8 < length m.parameters) ⊎ (2 ^ 63 ≤ length (parts_of m))
 
--- len is the number of these bytes. They are written to the start of an output, if it has room for them, and the rest of it does
--- not change. Otherwise none of it changes.
+-- len is the number of these bytes. They are written to the start of an output, if it has room for them, and the rest
+-- of it does not change. Otherwise none of it changes.
 pub record WritesIfFits (bytes before after : List ℕ) (len : ℕ) : Type 0 where
   pub len_is : len ≡ length bytes
   pub small : len < 2 ^ 63

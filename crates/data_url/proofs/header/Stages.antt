@@ -1,6 +1,6 @@
 -- The stages of the Standard, from the input to its record. For `DataUrl::process`.
-use Rattle.std.proofs.Common.{Err, Ok, Result, ◌==◌, true}
-use Rattle.std.proofs.Common.{Option, unwrap_or, get_or-drop, get_or-take, length-append, length-drop, take-append-drop, length-take}
+use Rattle.std.proofs.Common.{Err, Ok, Result, ◌==◌, true, length-append, length-drop, take-append-drop, length-take}
+use Rattle.std.proofs.Common.{Option, unwrap_or, get_or-drop, get_or-take}
 use Rattle.std.proofs.Common.{Some, refl, sym, ap, ◌∙◌, inl, inr, eqb-true, subst, arith, map, codes, ◌≢◌, is_some}
 use Rattle.std.proofs.Common.{drop_at, take_at, ◌≡◌, ℕ, suc, ◌<◌, ◌≤◌, Bool, false, List, [], ◌∷◌, ◌++◌, length, get_or}
 use Rattle.std.proofs.{Common.{take, drop, None}, lemmas.Slice.Eq.{bytes_eq-Decides}, Math.Seq.{drop-append_seam}}

@@ -1,7 +1,8 @@
 -- Parts that are written, one after another. For `in_parts.rt`.
 use Rattle.std.proofs.Common.{◌≡◌, ◌+◌, ◌^◌, ◌≤◌, ◌<◌, ◌==◌, ◌&&◌, ◌++◌, ◌∷◌, [], Bool, List, ap, arith, drop}
-use Rattle.std.proofs.Common.{Err, Ok, Result, inr, if◌then◌else◌, false, get_or, length, set, length-append, length-drop, length-take, map, not, refl, sym}
-use Rattle.std.proofs.Common.{take, true, ◌∙◌, ℕ, ap₂, append_assoc, append-nil, encode_utf8_all, suc, zero, subst, codes}
+use Rattle.std.proofs.Common.{Err, Ok, Result, inr, if◌then◌else◌, false, get_or, length, set, length-append}
+use Rattle.std.proofs.Common.{length-drop, length-take, map, not, refl, sym, take, true, ◌∙◌, ℕ, ap₂, append_assoc}
+use Rattle.std.proofs.Common.{append-nil, encode_utf8_all, suc, zero, subst, codes}
 use Rattle.std.proofs.lemmas.List.{drop_all, drop_more, length-map, map-append, take_more}
 use Rattle.std.proofs.Common.{length-take-le}
 use Rattle.std.proofs.Math.Seq.{set-append_seam}
@@ -15,7 +16,8 @@ use Rattle.data_url.specs.Mime.{IsRecordOfParts, Item, Items, Pair as MimePair, 
 use Rattle.data_url.specs.Mime.{is_token_text, kept_pairs}
 use Rattle.data_url.specs.declared.mime.parse.Head.{Head}
 use Rattle.data_url.specs.Parts.{WritesIfFits, part, parts_of, parts_of_pair}
-use Rattle.data_url.specs.Steps.{MimeParts.{Adds, Puts, WritesParts, WritesRecord, head_record}, Parsing.{unescaped}, Parts.{Writes}}
+use Rattle.data_url.specs.Steps.MimeParts.{Adds, Puts, WritesParts, WritesRecord, head_record}
+use Rattle.data_url.specs.Steps.{Parsing.{unescaped}, Parts.{Writes}}
 use Rattle.data_url.proofs.examples.Literals.{on_literals}
 use Rattle.data_url.proofs.mime.TokenTexts.{bytes_of_ascii, token_text_ascii, value_encodes}
 
@@ -111,7 +113,8 @@ lowers_next bytes old at n {new} f l h =
     let new_is : new ≡ front ++ get_or old (at + n) 0 ∷ drop (at + n + 1) old =
     h ∙ sym (append_assoc (take at old) done (drop (at + n) old)) ∙ ap (λ x. front ++ x) rest in
     let lower : map to_ascii_lowercase (take (n + 1) bytes) ≡ done ++ (b ∷ []) =
-    ap (map to_ascii_lowercase) (take_more bytes n 0 l) ∙ map-append to_ascii_lowercase (take n bytes) (get_or bytes n 0 ∷ [])
+    ap (map to_ascii_lowercase) (take_more bytes n 0 l)
+    ∙ map-append to_ascii_lowercase (take n bytes) (get_or bytes n 0 ∷ [])
     in
     ap₂ (λ x i. set x i b) new_is (sym size)
     ∙ set-append_seam front (get_or old (at + n) 0) (drop (at + n + 1) old) b

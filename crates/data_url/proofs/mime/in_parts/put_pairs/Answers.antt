@@ -1,4 +1,5 @@
-use Rattle.std.{proofs.Common.{[], ap, arith, encode_utf8_all, map, sym, ◌∙◌}, proofs.lemmas.List.{get_or-map, length-map}}
+use Rattle.std.proofs.Common.{[], ap, arith, encode_utf8_all, map, sym, ◌∙◌}
+use Rattle.std.proofs.lemmas.List.{get_or-map, length-map}
 use Rattle.std.specs.Str.{chars}
 use Rattle.data_url.specs.MimeType.{pair_of}
 use Rattle.data_url.proofs.mime.PartTexts.{puts_pair}

@@ -3,7 +3,8 @@ use Rattle.data_url.proofs.mime.parse.Head.put.Goals as goal
 
 pub returns-in-OfText : goal.returns-in-OfText
 returns-in-OfText c =
-    rw c.in-OfText.is (puts_both c.put_lowercase-at.ensures (puts_both c.put_lowercase-at-2.ensures c.put_slices.ensures))
+    rw c.in-OfText.is (puts_both c.put_lowercase-at.ensures (puts_both c.put_lowercase-at-2.ensures
+    c.put_slices.ensures))
 
 pub returns-in-OfRecord : goal.returns-in-OfRecord
 returns-in-OfRecord c =

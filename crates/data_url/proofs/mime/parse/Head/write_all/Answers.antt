@@ -13,7 +13,8 @@ returns-then-read c =
 pub returns-in_default : goal.returns-in_default
 returns-in_default c =
     let many = c.if-read.ensures in
-    (head_record c.args.self.now (kept_pairs many.0), record_of_head c.args.self.now many.0 _ many.1 refl, inl many.2, refl)
+    let head = c.args.self.now in
+    (head_record head (kept_pairs many.0), record_of_head head many.0 _ many.1 refl, inl many.2, refl)
 
 pub returns : goal.returns
 returns c =
