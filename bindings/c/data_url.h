@@ -272,6 +272,8 @@ struct data_url_answer data_url_base64(const void *base64, size_t len, void *out
 /* What data_url_open and data_url_open_parts return. */
 struct data_url_opened {
     uint32_t status;
+    /* Whether the body is base64. False if there is no URL. */
+    bool is_base64;
     /* How many bytes the MIME type has, printed or in parts. With DATA_URL_OUTPUT_TOO_SMALL it was not written. 0 if
      * there is no URL. */
     size_t len;
@@ -279,8 +281,6 @@ struct data_url_opened {
      * DATA_URL_DONE and DATA_URL_OUTPUT_TOO_SMALL, and 0 with any other status. */
     size_t tail;
     size_t tail_len;
-    /* Whether the body is base64. False if there is no URL. */
-    bool is_base64;
 };
 
 /* Reads the header of a data: URL. The body is not decoded.

@@ -116,16 +116,34 @@ impl<'a> DataUrl<'a> {
     ///
     /// `NotADataUrl` if the text does not begin with `data:`, and `NoComma` if there is no comma before the fragment.
     pub fn process(input: &'a str) -> Result<Self, DataUrlError> {
-        match library::open(input, mime::Mime::of_url) {
-            Ok((mime_type, is_base64, tail)) => Ok(DataUrl {
-                mime_type,
-                is_base64,
-                tail,
-            }),
-            Err(library::NOT_A_DATA_URL) => Err(DataUrlError::NotADataUrl),
-            Err(library::NO_COMMA) => Err(DataUrlError::NoComma),
-            Err(status) => unreachable!("status {}", status),
-        }
+        library::open(
+            input,
+            |parts, is_base64, tail| {
+                if parts.is_default() {
+                    return DataUrl::with_default_type(is_base64, tail);
+                }
+                Ok(DataUrl {
+                    mime_type: mime::Mime::from_parts(parts),
+                    is_base64,
+                    tail,
+                })
+            },
+            |status| match status {
+                library::NOT_A_DATA_URL => Err(DataUrlError::NotADataUrl),
+                library::NO_COMMA => Err(DataUrlError::NoComma),
+                status => unreachable!("status {}", status),
+            },
+        )
+    }
+
+    /// Returns the URL with the default MIME type and this tail. Its strings are copied from constants.
+    #[inline(never)]
+    fn with_default_type(is_base64: bool, tail: &'a str) -> Result<Self, DataUrlError> {
+        Ok(DataUrl {
+            mime_type: mime::Mime::default_type(),
+            is_base64,
+            tail,
+        })
     }
 
     /// Returns the MIME type: that of the header or, if the header has none, `text/plain;charset=US-ASCII`.

@@ -1,7 +1,6 @@
 //! The exports of `crates/data_url_c` for Rust. Everything that is unsafe is in this file.
 
 use alloc::alloc::{handle_alloc_error, Layout};
-use alloc::borrow::ToOwned;
 use alloc::string::String;
 use alloc::vec::Vec;
 use core::convert::TryInto;
@@ -40,10 +39,10 @@ pub(crate) struct Answer {
 #[repr(C)]
 struct OpenedUrl {
     status: u32,
+    is_base64: bool,
     len: usize,
     tail: usize,
     tail_len: usize,
-    is_base64: bool,
 }
 
 #[repr(C)]
@@ -144,13 +143,16 @@ impl<const N: usize> Room<N> {
     }
 }
 
-/// Calls a function with room on the stack and, if the answer does not fit, again with a vector; returns what `read`
-/// makes of the bytes that it wrote.
+/// Calls a function with room on the stack and, if the answer does not fit, again with a vector. Returns what `read`
+/// makes of the bytes that it wrote, or what `refuse` makes of a status that is not success. It is compiled into its
+/// callers, so that the result is not moved.
+#[inline(always)]
 fn written<A, T>(
     call: impl Fn(*mut u8, usize) -> A,
     answer: impl Fn(&A) -> (u32, usize),
     read: impl Fn(&A, &[u8]) -> T,
-) -> Result<T, u32> {
+    refuse: impl Fn(u32) -> T,
+) -> T {
     check_processor();
     let mut room = Room::<WRITTEN>::new();
     let mut more = Vec::new();
@@ -165,13 +167,13 @@ fn written<A, T>(
                     assert!(len <= more.capacity());
                     unsafe { more.set_len(len) };
                 }
-                (status, _) => return Err(refusal(status)),
+                (status, _) => return refuse(refusal(status)),
             }
             &more
         }
-        (status, _) => return Err(refusal(status)),
+        (status, _) => return refuse(refusal(status)),
     };
-    Ok(read(&given, bytes))
+    read(&given, bytes)
 }
 
 /// A text that the library wrote, which is UTF-8.
@@ -179,29 +181,36 @@ fn text_of(bytes: &[u8]) -> &str {
     unsafe { core::str::from_utf8_unchecked(bytes) }
 }
 
-/// The parts of a MIME type: the type, the subtype, and the name and the value of each parameter. Each comes after its
-/// length.
+/// The parts of a MIME type that are left: the type, the subtype, and the name and the value of each parameter. Each
+/// comes after its length.
+#[derive(Clone)]
 pub(crate) struct Parts<'a>(&'a [u8]);
 
+/// `text/plain;charset=US-ASCII` in parts.
+const DEFAULT: &[u8] = b"\x04\0\0\0\0\0\0\0text\x05\0\0\0\0\0\0\0plain\
+\x07\0\0\0\0\0\0\0charset\x08\0\0\0\0\0\0\0US-ASCII";
+
 impl Parts<'_> {
-    pub(crate) fn is_empty(&self) -> bool {
-        self.0.is_empty()
-    }
-
-    /// Takes the next two parts.
+    /// Returns whether this is the MIME type of a URL that names none.
     #[inline(always)]
-    pub(crate) fn next_pair(&mut self) -> (String, String) {
-        (self.next(), self.next())
+    pub(crate) fn is_default(&self) -> bool {
+        self.0 == DEFAULT
     }
+}
 
-    /// Takes the next part.
+impl<'a> Iterator for Parts<'a> {
+    type Item = &'a str;
+
     #[inline(always)]
-    fn next(&mut self) -> String {
+    fn next(&mut self) -> Option<&'a str> {
+        if self.0.is_empty() {
+            return None;
+        }
         let (len, rest) = self.0.split_at(LENGTH);
         let len = u64::from_le_bytes(len.try_into().expect("eight bytes")) as usize;
         let (part, rest) = rest.split_at(len);
         self.0 = rest;
-        text_of(part).to_owned()
+        Some(text_of(part))
     }
 }
 
@@ -213,33 +222,38 @@ fn refusal(status: u32) -> u32 {
     status
 }
 
-/// Opens a URL: the result of `read` for its MIME type, whether its body is base64, and the text after its comma.
-/// `read` gets no parts if the URL begins with `data:,` in any case: it has no header then, and its type is the default
-/// one.
-pub(crate) fn open<T>(
-    url: &str,
-    read: impl Fn(Option<Parts<'_>>) -> T,
-) -> Result<(T, bool, &str), u32> {
+/// Opens a URL: the result of `read` for the parts of its MIME type, whether its body is base64, and the text after its
+/// comma, or that of `refuse` for the status.
+#[inline(always)]
+pub(crate) fn open<'a, T>(
+    url: &'a str,
+    read: impl Fn(Parts<'_>, bool, &'a str) -> T,
+    refuse: impl Fn(u32) -> T,
+) -> T {
     written(
         // The bytes of a `str` are UTF-8.
         |out, room| unsafe { dataurl_open_parts_utf8(url.as_ptr(), url.len(), out, room) },
         |opened| (opened.status, opened.len),
         |opened, parts| {
             let tail = &url[opened.tail..opened.tail + opened.tail_len];
-            // A URL that was opened has the five bytes of the scheme, at least, before its first comma.
-            let has_header = url.as_bytes()[5] != b',';
-            let parts = if has_header { Some(Parts(parts)) } else { None };
-            (read(parts), opened.is_base64, tail)
+            read(Parts(parts), opened.is_base64, tail)
         },
+        refuse,
     )
 }
 
-/// The result of `read` for a MIME type.
-pub(crate) fn mime_type<T>(text: &str, read: impl Fn(Parts<'_>) -> T) -> Result<T, u32> {
+/// Parses a MIME type: the result of `read` for its parts, or that of `refuse` if the text is none.
+#[inline(always)]
+pub(crate) fn mime_type<T>(
+    text: &str,
+    read: impl Fn(Parts<'_>) -> T,
+    refuse: impl Fn(u32) -> T,
+) -> T {
     written(
         |out, room| unsafe { dataurl_type_parts_utf8(text.as_ptr(), text.len(), out, room) },
         |answer| (answer.status, answer.len),
         |_, parts| read(Parts(parts)),
+        refuse,
     )
 }
 

@@ -44,9 +44,9 @@ impl Mime {
         Some(value)
     }
 
-    /// Returns the type of a URL without a header.
-    #[inline(never)]
-    fn of_no_header() -> Mime {
+    /// Returns the MIME type of a URL that names none.
+    #[inline(always)]
+    pub(crate) fn default_type() -> Mime {
         Mime {
             type_: "text".to_owned(),
             subtype: "plain".to_owned(),
@@ -54,19 +54,14 @@ impl Mime {
         }
     }
 
-    /// Returns the MIME type of a URL, from its parts, or the default one.
-    #[inline(always)]
-    pub(crate) fn of_url(parts: Option<Parts<'_>>) -> Mime {
-        parts.map_or_else(Mime::of_no_header, Mime::from_parts)
-    }
-
     /// Returns the MIME type with these parts.
     #[inline(always)]
-    fn from_parts(mut parts: Parts<'_>) -> Mime {
-        let (type_, subtype) = parts.next_pair();
-        let mut parameters = Vec::with_capacity(!parts.is_empty() as usize);
-        while !parts.is_empty() {
-            parameters.push(parts.next_pair());
+    pub(crate) fn from_parts(mut parts: Parts<'_>) -> Mime {
+        let type_ = parts.next().expect("a type").to_owned();
+        let subtype = parts.next().expect("a subtype").to_owned();
+        let mut parameters = Vec::with_capacity(parts.clone().count() / 2);
+        while let (Some(name), Some(value)) = (parts.next(), parts.next()) {
+            parameters.push((name.to_owned(), value.to_owned()));
         }
         Mime {
             type_,
@@ -81,7 +76,11 @@ impl FromStr for Mime {
     type Err = MimeParsingError;
 
     fn from_str(text: &str) -> Result<Mime, MimeParsingError> {
-        library::mime_type(text, Mime::from_parts).map_err(|_| MimeParsingError(()))
+        library::mime_type(
+            text,
+            |parts| Ok(Mime::from_parts(parts)),
+            |_| Err(MimeParsingError(())),
+        )
     }
 }
 

@@ -109,6 +109,7 @@ pub(crate) fn split_suffix(header: &str) -> (&str, bool)
 }
 
 /// Returns the parts of the MIME type of a header without its suffix, if it has one. A missing type is `text/plain`.
+#[inline(always)]
 #[tactic(auto, using(crate::proofs::header::Stages::chars_printable, crate::proofs::header::Stages::begins_at))]
 fn media_head(media: &str) -> Option<Head<'_>>
     requires { IsPrintable media.now }

@@ -45,7 +45,7 @@ pub enum DataUrlError {
     NotADataUrl,
     /// There is no comma before the fragment (Fetch Standard, section 6).
     NoComma,
-    /// Allocation failed.
+    /// Allocation failed. Of `parts::read_header` also: the MIME type has 2 to the power of 63 bytes or more in parts.
     OutOfMemory,
 }
 

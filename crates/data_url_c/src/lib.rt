@@ -173,7 +173,7 @@ pub extern "C" fn dataurl_open_parts(alloc: Global, url: &[u8], out: &mut [u8]) 
     }
 }
 
-/// Opens a data: URL that is known to be UTF-8, as `dataurl_open_parts` does.
+/// Opens a data: URL as `dataurl_open_parts` does. The URL is UTF-8, and is not checked.
 #[unsafe(no_mangle)]
 pub extern "C" fn dataurl_open_parts_utf8(
     alloc: Global,

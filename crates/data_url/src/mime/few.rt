@@ -10,7 +10,7 @@ use super::parse::{Parameter, read_parameter};
 use super::values::Value;
 
 /// How many parameters are kept at most.
-const MOST: usize = 8;
+const MOST_SLICES: usize = 8;
 
 /// The name and the value of a parameter, as slices of the text.
 #[derive(Clone, Copy)]
@@ -22,7 +22,7 @@ pub(super) struct NameAndValue<'a> {
 /// The parameters that are kept: the first `len` of these.
 #[derive(Clone, Copy)]
 pub(super) struct FewParameters<'a> {
-    pub(super) slices: [NameAndValue<'a>; MOST],
+    pub(super) slices: [NameAndValue<'a>; MOST_SLICES],
     pub(super) len: usize,
 }
 
@@ -37,7 +37,7 @@ impl<'a> FewParameters<'a> {
             slices: [NameAndValue {
                 name: "",
                 value: Value::Missing,
-            }; MOST],
+            }; MOST_SLICES],
             len: 0,
         }
     }
@@ -67,8 +67,8 @@ impl<'a> FewParameters<'a> {
         requires token { IsTrue (is_token_text (chars name.now)) }
         ensures { result ≡ has_name (map to_ascii_lowercase (chars name.now)) (pairs_of self.now) }
     {
-        for slices in &self.slices[..self.len] {
-            if is_same_name(slices.name, name) {
+        for slice in &self.slices[..self.len] {
+            if is_same_name(slice.name, name) {
                 return true;
             }
         }
@@ -84,7 +84,7 @@ impl<'a> FewParameters<'a> {
         if !parameter.is_token || self.has_name(parameter.name) || !parameter.value.is_valid() {
             return true;
         }
-        if self.len == MOST {
+        if self.len == MOST_SLICES {
             return false;
         }
         self.slices[self.len] = NameAndValue {

@@ -190,7 +190,8 @@ enum Parameters<'a> {
 }
 
 impl<'a> Head<'a> {
-    /// Puts the record of a MIME type with these parts and parameters at the start of an output.
+    /// Puts the record of a MIME type with these parts and parameters at the start of an output that has room for it. Returns how many
+    /// bytes it has.
     fn put(&self, parameters: Parameters<'_>, output: &mut [u8]) -> usize
         requires type_ { IsTrue (is_token_text (chars self.now.type_.now)) }
         requires subtype { IsTrue (is_token_text (chars self.now.subtype.now)) }

@@ -56,6 +56,7 @@ impl<'a> Head<'a> {
 }
 
 /// The parts of a MIME type, if the text is one.
+#[inline(always)]
 #[tactic(auto, using(crate::proofs::mime::Parsing::heads))]
 pub(crate) fn read_head(text: &str) -> Option<Head<'_>>
     ensures { MatchOption result (HasNoHead (chars text.now))

@@ -21,7 +21,8 @@ pub struct Header<'a> {
 
 /// Reads the header of a data: URL
 /// ([Fetch Standard, section 6](https://fetch.spec.whatwg.org/#data-url-processor)), as `DataUrl::process` does, and
-/// writes its MIME type to the start of an output, in parts as `read_mime_type` does.
+/// writes its MIME type to the start of an output, in parts as `read_mime_type` does. If the header has none, this is
+/// `text/plain;charset=US-ASCII`. Everything after `data:` is an opaque path (URL Standard, section 4.4).
 ///
 /// Returns how many bytes the parts have together, whether the body is base64, and the text after the comma, from which
 /// `Body` decodes it. If the output has room for fewer bytes, nothing is written.

@@ -4,12 +4,13 @@ use Rattle.data_url_c.proofs.GivenLemmas.{vec_of}
 use Rattle.data_url_c.proofs.OpenLemmas.{header_refused, opens, opens_refused}
 use Rattle.data_url_c.proofs.open.open_in_parts.Goals as goal
 
-pub returns-in-Ok : goal.returns-in-Ok
-returns-in-Ok c =
+pub returns : goal.returns
+returns c =
     let h = c.in-Ok.ensures in
     let w = h.written in
     let text = vec_of c.args.alloc (parts_of h.mime) (omega (arith, w.len_is, w.small)) in
-    opens parts_of text c.utf8.text h.url_is refl (c.written.ensures _ _ w) (search rules)
+    opens parts_of text c.utf8.text h.url_is refl (c.written-answer.ensures _ _ w)
+    (record { answer_is = refl; tail_is = search rules; len_is = refl; base64_is = refl })
 
 pub returns-in-Err : goal.returns-in-Err
 returns-in-Err c =

@@ -19,8 +19,8 @@ returns-then-not-parameter c = (
   c.requires.tokens,
 )
 
-pub returns-then-self-eq-MOST : goal.returns-then-self-eq-MOST
-returns-then-self-eq-MOST c = no_room c.args.self.now _ _ _ c.requires.tokens c.if-self-eq-MOST.true
+pub returns-then-self-eq-MOST_SLICES : goal.returns-then-self-eq-MOST_SLICES
+returns-then-self-eq-MOST_SLICES c = no_room c.args.self.now _ _ _ c.requires.tokens c.if-self-eq-MOST_SLICES.true
     (sym c.requires.token ∙ c.if-not-parameter.false) (sym c.has_name.ensures ∙ c.if-has_name.false)
     c.if-not-is_valid.ensures
 
