@@ -18,12 +18,18 @@ const FED_AT_ONCE: usize = 4 * 1024;
 /// How many bytes of a long text are looked at before room is allocated for it.
 const PROBED: usize = 4 * 1024;
 
-/// Calls a closure with the next bytes of a body, at most a number of them. It goes on until the body ends, or until fewer than
-/// `BUFFER_LEN` of that number are left: for less, bytes are not gathered. If the number itself is less, it goes on until none is
-/// left. Returns the closure's error.
-pub(crate) fn take_within<F, E>(walk: &mut Walk<'_>, most: usize, take: &mut F) -> Result<(), E>
+/// Calls a closure with the next bytes of a body, at most `most` of them, and at most `at_once` in each call. It goes on until the
+/// body ends, or until fewer than `BUFFER_LEN` of `most` are left: for less, bytes are not gathered. If `most` itself is less, it
+/// goes on until none is left. Returns the closure's error.
+pub(crate) fn take_within<F, E>(
+    walk: &mut Walk<'_>,
+    most: usize,
+    at_once: usize,
+    take: &mut F,
+) -> Result<(), E>
 where
     F: FnMut(&[u8]) -> Result<(), E>,
+    requires some { 1 ≤ at_once }
     requires callable { IsCallableUntilError F.FnMut take.old }
     requires short { walk.old.place + length walk.old.rest ≤ length walk.old.text }
     ensures { TakesWithin (CalledAt F.FnMut) take.old walk.old most result take.new walk.new }
@@ -38,7 +44,7 @@ where
         if left < least && left < walk.rest_len() {
             break 'pieces;
         }
-        let Some(bytes) = walk.next_bytes(&mut room, left.max(1)) else {
+        let Some(bytes) = walk.next_bytes(&mut room, left.max(1).min(at_once)) else {
             break 'pieces;
         };
         take(bytes)?;
@@ -65,7 +71,7 @@ where
     if !prefix.is_empty() {
         take(prefix)?;
     }
-    take_within(walk, most, take)
+    take_within(walk, most, usize::MAX, take)
 }
 
 /// Decodes a tail up to its first `#` or `%`, in parts of at most 4 KiB, the most that `feed_unescaped` accepts. So the decoder cannot
@@ -120,7 +126,7 @@ where
         requires callable { F.IsAlwaysCallable (state_of decoder.now).closure }
         requires going { (state_of decoder.now).failed ≡ false }
     { decoder.feed(bytes) };
-    take_within(&mut walk, most - place, &mut feed)?;
+    take_within(&mut walk, most - place, FED_AT_ONCE, &mut feed)?;
     if !walk.has_ended() {
         return Ok(Stop::Paused(walk.place()));
     }

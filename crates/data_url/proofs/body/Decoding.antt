@@ -232,7 +232,7 @@ module _ {F E : Type 0} (step : F → List ℕ → Result (Unit {0}) E → F →
 
 -- the next bytes of a walk are not more than what may be taken, if that is not nothing, or the rest
 -- of the text is not more
-pub next_fits : {w w' : Walk} {bytes : List ℕ} {left most : ℕ} → Takes w bytes w' → most ≡ max left 1
+pub next_fits : {w w' : Walk} {bytes : List ℕ} {left most : ℕ} → Takes w bytes w' → most ≤ max left 1
     → length bytes ≤ most → (1 ≤ left) ⊎ (length w.text - w.place ≤ left) → length bytes ≤ left
 next_fits t e few (inl l) = omega arith
 next_fits t e few (inr l) = omega (arith, t.place, t.within, t.some, ap length t.text_stays)

@@ -27,7 +27,8 @@ returns-in_err-take g c =
       ))
       | goal.else-left-least-via-else-left-least w ↦ inl (omega (arith, w.if-left-least.false, some))
     ] in
-    let few = next_fits c.in-Some.ensures.gives c.max.ensures c.in-Some.ensures.few or in
+    let few = next_fits c.in-Some.ensures.gives (omega (arith, c.min.ensures, c.max.ensures))
+    c.in-Some.ensures.few or in
     rw (p.1, p.2) (takes_refused (CalledAt g.F.FnMut) c.pieces.invariant c.in-Some.ensures.gives few
     (record { shown = _; shows = refl; called = c.in_err-take.ensures }))
 
@@ -46,7 +47,8 @@ pieces-preserved g c =
       ))
       | goal.else-left-least-via-else-left-least w ↦ inl (omega (arith, w.if-left-least.false, some))
     ] in
-    let few = next_fits c.in-Some.ensures.gives c.max.ensures c.in-Some.ensures.few or in
+    let few = next_fits c.in-Some.ensures.gives (omega (arith, c.min.ensures, c.max.ensures))
+    c.in-Some.ensures.few or in
     takes_more (CalledAt g.F.FnMut) c.pieces.invariant c.in-Some.ensures.gives few
     (record { shown = _; shows = refl; called = c.in_ok-take.ensures })
 
