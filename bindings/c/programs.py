@@ -16,7 +16,7 @@ LONG = 400_000
 
 def shown():
     """Returns the programs as they are written there."""
-    comment = HERE.joinpath("data_url.h").read_text().split("*/")[0]
+    comment = HERE.parent.joinpath("rust/include/data_url.h").read_text().split("*/")[0]
     lines = [line[3:] for line in comment.splitlines()]
     indented = "\n".join(line[4:] if line.startswith("    ") else "" if not line else "\f" for line in lines)
     pages = [HERE.parent / "README.md", HERE.parent.parent / "README.md"]

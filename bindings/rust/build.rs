@@ -1,5 +1,7 @@
-//! Links `libdata_url.a`. It is looked for in the folder that `DATA_URL_LIB` names or, without it, in `../out/TARGET`, where
-//! `bindings/build` puts it, and in `../prebuilt/TARGET`. If it is in neither, it is built, which needs the Rattle kit.
+//! Links `libdata_url.a`: that of the folder that `DATA_URL_LIB` names or, without it, that of `prebuilt/TARGET` in this package.
+//!
+//! In a checkout, `../build` is the script that proves and builds the library. Then that of `../out/TARGET` comes first, where the
+//! script puts it. If there is none in either folder, it is built, which needs the Rattle kit.
 
 use std::env;
 use std::fs::read;
@@ -55,14 +57,20 @@ fn folder() -> PathBuf {
     if let Some(given) = env::var_os("DATA_URL_LIB") {
         return PathBuf::from(given);
     }
-    let bindings = Path::new(&env::var_os("CARGO_MANIFEST_DIR").expect("by cargo")).join("..");
+    let package = PathBuf::from(env::var_os("CARGO_MANIFEST_DIR").expect("by cargo"));
     let target = target();
+    let kept = package.join("prebuilt").join(target);
+    let bindings = package.join("..");
     let built = bindings.join("out").join(target);
-    let kept = bindings.join("prebuilt").join(target);
-    for folder in [&built, &kept].iter() {
-        if folder.join("libdata_url.a").exists() {
-            return folder.to_path_buf();
-        }
+    let is_checkout = bindings.join("build").is_file();
+    if is_checkout && built.join("libdata_url.a").exists() {
+        return built;
+    }
+    if kept.join("libdata_url.a").exists() {
+        return kept;
+    }
+    if !is_checkout {
+        fail(&format!("there is no {}/libdata_url.a", kept.display()));
     }
     build(&bindings, target);
     built

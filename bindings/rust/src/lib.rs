@@ -12,6 +12,9 @@
 //! data-url = { git = "file:///.../checkout" }
 //! ```
 //!
+//! The package has all that it links, so it can be vendored, and is built offline. `README.md` says how a registry of
+//! your own takes it.
+//!
 //! The module [`parts`] is not in the crate: it has a body that is read in parts, with `std::io::Read` or without.
 //!
 //! # Platforms

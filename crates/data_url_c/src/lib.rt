@@ -1,5 +1,5 @@
 //! The functions of `data_url` for C and for languages that call C. They read a data: URL, a MIME type or base64, and
-//! write the result to an output that the caller owns. `bindings/c/data_url.h` declares them.
+//! write the result to an output that the caller owns. `bindings/rust/include/data_url.h` declares them.
 //!
 //! A slice is passed as a pointer, which is not null, and a length; `Global` is not passed. The bytes may be any bytes.
 //! Each function returns a status and a length:
