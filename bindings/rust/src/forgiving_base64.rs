@@ -71,7 +71,7 @@ impl<E: fmt::Display> fmt::Display for DecodeError<E> {
 #[cfg(feature = "std")]
 impl<E: std::error::Error> std::error::Error for DecodeError<E> {}
 
-/// Decodes a whole text.
+/// Decodes a whole text. Room that is more than twice the length of the result and more than 4 KiB is given back.
 ///
 /// # Errors
 ///

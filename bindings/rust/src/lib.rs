@@ -214,6 +214,9 @@ impl<'a> DataUrl<'a> {
 
     /// Returns the body's bytes, and the fragment if there is one.
     ///
+    /// The vector is made with room for all that follows the comma. Room that is more than twice the body's length and
+    /// more than 4 KiB is given back.
+    ///
     /// # Errors
     ///
     /// `InvalidBase64` if the body is base64 that is not valid.

@@ -24,6 +24,9 @@ const WRITTEN: usize = 256;
 /// A fragment of at most this many bytes is encoded by one call.
 const SHORT_FRAGMENT: usize = 256;
 
+/// A vector of at most this many bytes keeps its room, whatever its length is.
+const SMALL: usize = 4096;
+
 /// How many bytes the length of a part has.
 const LENGTH: usize = 8;
 
@@ -257,6 +260,15 @@ pub(crate) fn mime_type<T>(
     )
 }
 
+/// Gives back room, by one call of the allocator, if it is more than twice the length and more than `SMALL`. A fragment,
+/// escapes, tabs and newlines took it, of which a body has fewer bytes or none.
+#[inline]
+fn give_back(bytes: &mut Vec<u8>) {
+    if bytes.capacity() > SMALL && bytes.capacity() / 2 > bytes.len() {
+        bytes.shrink_to_fit();
+    }
+}
+
 /// The text of a fragment, encoded.
 pub(crate) fn fragment(text: &str) -> String {
     check_processor();
@@ -269,6 +281,7 @@ pub(crate) fn fragment(text: &str) -> String {
         let encoded = unsafe { append(&mut bytes, encode, |encoded| encoded.len) };
         rest = &rest[encoded.read..];
     }
+    give_back(&mut bytes);
     // The library writes ASCII alone.
     unsafe { String::from_utf8_unchecked(bytes) }
 }
@@ -355,6 +368,7 @@ impl Body {
             let write = |out, room| unsafe { self.write_next(tail, out, room) };
             let answer = unsafe { append(&mut bytes, write, |answer| answer.len) };
             if answer.status != MORE {
+                give_back(&mut bytes);
                 return (answer.status, bytes);
             }
         }
@@ -419,10 +433,11 @@ pub(crate) fn base64(input: &[u8]) -> (u32, Vec<u8>) {
         }
         rest = &rest[fed.read..];
     }
-    if state.is_whole() {
-        return (DONE, bytes);
+    let mut status = DONE;
+    if !state.is_whole() {
+        let finish = |out, room| unsafe { dataurl_base64_finish(&mut state, out, room) };
+        status = unsafe { append(&mut bytes, finish, |answer| answer.len) }.status;
     }
-    let finish = |out, room| unsafe { dataurl_base64_finish(&mut state, out, room) };
-    let answer = unsafe { append(&mut bytes, finish, |answer| answer.len) };
-    (answer.status, bytes)
+    give_back(&mut bytes);
+    (status, bytes)
 }
