@@ -1,5 +1,6 @@
 /* The functions of data_url.h over the proved calls, whose pointers may not be null: a pointer to no bytes is replaced by
- * one that is not null. Nothing else happens here. */
+ * one that is not null. A state that is null is replaced by one that the calls refuse, and so is one of a body whose flag is
+ * neither 0 nor 1, which the proved call takes as 1. Nothing else happens here. */
 #include "data_url.h"
 
 typedef const uint8_t *bytes;
@@ -23,6 +24,18 @@ static uint8_t nothing;
 static bytes text(const void *text, size_t len) { return len == 0 ? &nothing : (bytes)text; }
 
 static uint8_t *output(void *out, size_t room) { return room == 0 ? &nothing : (uint8_t *)out; }
+
+/* States with more symbols left over than three, which no call returned. A call that refuses a state writes nothing to it. */
+static const struct data_url_body_state bad_body = {0, {0, 0, 0}, 255, 0, 0};
+static const struct data_url_base64_state bad_base64 = {{0, 0, 0}, 255, 0};
+
+static struct data_url_body_state *body_state(struct data_url_body_state *state) {
+    return state && state->is_base64 < 2 ? state : (struct data_url_body_state *)&bad_body;
+}
+
+static struct data_url_base64_state *base64_state(struct data_url_base64_state *state) {
+    return state ? state : (struct data_url_base64_state *)&bad_base64;
+}
 
 struct data_url_answer data_url_body(const void *url, size_t len, void *out, size_t room) {
     return dataurl_body(text(url, len), len, output(out, room), room);
@@ -58,14 +71,14 @@ struct data_url_answer data_url_type_parts(const void *type, size_t len, void *o
 
 struct data_url_answer data_url_body_next(
     struct data_url_body_state *state, const void *tail, size_t len, void *out, size_t room) {
-    return dataurl_body_next(state, text(tail, len), len, output(out, room), room);
+    return dataurl_body_next(body_state(state), text(tail, len), len, output(out, room), room);
 }
 
 struct data_url_fed data_url_base64_feed(
     struct data_url_base64_state *state, const void *input, size_t len, void *out, size_t room) {
-    return dataurl_base64_feed(state, text(input, len), len, output(out, room), room);
+    return dataurl_base64_feed(base64_state(state), text(input, len), len, output(out, room), room);
 }
 
 struct data_url_answer data_url_base64_finish(struct data_url_base64_state *state, void *out, size_t room) {
-    return dataurl_base64_finish(state, output(out, room), room);
+    return dataurl_base64_finish(base64_state(state), output(out, room), room);
 }

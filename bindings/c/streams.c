@@ -237,6 +237,7 @@ static void random_states(void) {
         size_t room = below(12);
         struct data_url_answer part = data_url_body_next(&state, tail, len, fresh(room), room);
         add(part.status == DATA_URL_OUTPUT_TOO_SMALL ? 0 : part.len, room, tail, len);
+        check(state.is_base64 < 2 || part.status == DATA_URL_BAD_STATE, "a flag that no call made", tail, len);
         struct data_url_fed fed = data_url_base64_feed(&left, tail, len, fresh(room), room);
         add(fed.status == DATA_URL_OUTPUT_TOO_SMALL ? 0 : fed.len, room, tail, len);
         struct data_url_answer end = data_url_base64_finish(&left, fresh(room), room);

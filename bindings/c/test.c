@@ -680,6 +680,63 @@ static void no_allocations(void) {
     check(allocations == 0, "number of allocations", "the calls that take a state, and fragment_next");
 }
 
+/* A state of a body that is refused: nothing is written, and a state that is there stays as it was. */
+static void refuses_body(struct data_url_body_state *state, const char *what) {
+    struct data_url_body_state before = state ? *state : (struct data_url_body_state)DATA_URL_BODY_STATE(false);
+    for (size_t room = 0; room <= 16; room += 8) {
+        uint8_t *out = filled_room(room);
+        check(is(data_url_body_next(state, "QUJD", 4, out, room), DATA_URL_BAD_STATE, 0), "bad state", what);
+        check(is_filled(out, room + 1), "output", what);
+        check(!state || memcmp(&before, state, offsetof(struct data_url_body_state, is_base64) + 1) == 0, "bad state is changed", what);
+        free(out);
+    }
+}
+
+/* The same for a text of base64. */
+static void refuses_base64(struct data_url_base64_state *state, const char *what) {
+    struct data_url_base64_state before = state ? *state : (struct data_url_base64_state)DATA_URL_BASE64_STATE;
+    for (size_t room = 0; room <= 16; room += 8) {
+        uint8_t *out = filled_room(room);
+        struct data_url_fed fed = data_url_base64_feed(state, "QUJD", 4, out, room);
+        check(fed.status == DATA_URL_BAD_STATE && fed.len == 0 && fed.read == 0, "bad state, fed", what);
+        check(is(data_url_base64_finish(state, out, room), DATA_URL_BAD_STATE, 0), "bad state, finished", what);
+        check(is_filled(out, room + 1), "output", what);
+        check(!state || memcmp(&before, state, sizeof before) == 0, "bad state is changed", what);
+        free(out);
+    }
+}
+
+/* States that are null, or that no call returned. */
+static void bad_states(void) {
+    refuses_body(NULL, "null");
+    refuses_base64(NULL, "null");
+    for (unsigned flag = 2; flag < 256; flag++) {
+        struct data_url_body_state state = DATA_URL_BODY_STATE(true);
+        state.is_base64 = (uint8_t)flag;
+        refuses_body(&state, "a flag that is neither 0 nor 1");
+    }
+    for (int pending = 4; pending < 256; pending++) {
+        struct data_url_body_state body = DATA_URL_BODY_STATE(true);
+        struct data_url_base64_state base64 = DATA_URL_BASE64_STATE;
+        body.pending = base64.pending = (uint8_t)pending;
+        refuses_body(&body, "more symbols left over than three");
+        refuses_base64(&base64, "more symbols left over than three");
+    }
+    struct data_url_body_state after = DATA_URL_BODY_STATE(false);
+    after.from = 5;
+    refuses_body(&after, "a place after the tail");
+}
+
+/* Tails that are not UTF-8 are decoded as the bytes that they are. */
+static void other_tails(void) {
+    uint8_t out[16];
+    struct data_url_body_state plain = DATA_URL_BODY_STATE(false), base64 = DATA_URL_BODY_STATE(true);
+    struct data_url_answer part = data_url_body_next(&plain, "a\xff%fe\xc3#\xff", 8, out, sizeof out);
+    check(is(part, DATA_URL_DONE, 4) && memcmp(out, "a\xff\xfe\xc3", 4) == 0, "a tail", "not UTF-8");
+    part = data_url_body_next(&base64, "QUJD\xff", 5, out, sizeof out);
+    check(is(part, DATA_URL_BASE64_UNEXPECTED_SYMBOL + 0xff, 3) && memcmp(out, "ABC", 3) == 0, "base64", "not UTF-8");
+}
+
 /* Whether an answer is the first bytes of these, all of which fit. */
 static int begins(const uint8_t *out, size_t len, size_t room, const char *want) {
     return len <= room && len <= strlen(want) && memcmp(out, want, len) == 0;
@@ -773,6 +830,8 @@ int main(void) {
     failing_allocations();
     failing_allocations_in_parts();
     no_allocations();
+    bad_states();
+    other_tails();
     small_rooms();
     printf("c: %d checks, %d wrong\n", checks, wrong);
     return wrong ? 1 : 0;

@@ -159,7 +159,8 @@
  * PLATFORMS. Linux on x86-64 (level x86-64-v2 or higher) and aarch64. C99, C++11 and later. The library for x86-64 has each call
  * for x86-64-v2 and for x86-64-v3. The first call asks the processor which of them it can run.
  *
- * The functions add one thing to calls that are proved: a pointer to no bytes may be null.
+ * The functions add two things to calls that are proved: a pointer to no bytes may be null, and a state that is null, or
+ * whose is_base64 is neither 0 nor 1, is DATA_URL_BAD_STATE.
  */
 #ifndef DATA_URL_H
 #define DATA_URL_H
@@ -199,7 +200,7 @@ enum data_url_status {
     DATA_URL_BASE64_SYMBOL_AFTER_PADDING = 10,
     /* There are more bytes: call again. */
     DATA_URL_MORE = 11,
-    /* The state was not made by the calls of this file, or its text has ended. Nothing was done. */
+    /* The state is null or one that no call returned, or its text has ended. Nothing was done. */
     DATA_URL_BAD_STATE = 12,
     /* Base64 with a byte that is neither whitespace nor '=' nor a symbol: this plus the byte, 256 to 511. */
     DATA_URL_BASE64_UNEXPECTED_SYMBOL = 256
@@ -346,9 +347,9 @@ struct data_url_body_state {
  * tail, len   the tail: url + opened.tail, opened.tail_len
  * out, room   receives the next bytes; the room may differ from call to call, and must be 8 or more. 4 KiB are fast
  * Returns DATA_URL_MORE; DATA_URL_DONE with the last bytes; a fault of base64, with the bytes before it;
- * DATA_URL_OUTPUT_TOO_SMALL if the room is less than 8; DATA_URL_BAD_STATE if the state was changed by something else, or the
- * body has ended. With the last two the length is 0, and the state stays as it was. A tail that is not UTF-8 is decoded as the
- * bytes that it is. */
+ * DATA_URL_OUTPUT_TOO_SMALL if the room is less than 8; DATA_URL_BAD_STATE if the state is null or one that no call returns
+ * for this tail, or the body has ended. With the last two the length is 0, and the state stays as it was. A tail that is not
+ * UTF-8 is decoded as the bytes that it is. */
 struct data_url_answer data_url_body_next(
     struct data_url_body_state *state, const void *tail, size_t len, void *out, size_t room);
 
