@@ -20,6 +20,7 @@ static uint32_t decode(FILE *from, FILE *to) {
 }
 
 int main(void) {
+    if (!data_url_is_supported()) return 1;
     uint32_t status = decode(stdin, stdout);
     return status == DATA_URL_DONE && !ferror(stdin) && fflush(stdout) == 0 && !ferror(stdout) ? 0 : 1;
 }

@@ -2,39 +2,12 @@
  * x86-64-v3, with v3_. The functions here call the one that the processor has the instructions for. bindings/build fails if
  * an export is missing here. */
 #include "data_url.h"
+#include "processor.h"
 
 typedef const uint8_t *bytes;
 
 /* The level, 2 or 3; 0 before the first call. All threads find the same level, so it does not matter which one writes it. */
 static int level;
-
-struct registers {
-    uint32_t a, b, c, d;
-};
-
-static struct registers cpuid(uint32_t leaf) {
-    struct registers it;
-    __asm__ volatile("cpuid" : "=a"(it.a), "=b"(it.b), "=c"(it.c), "=d"(it.d) : "a"(leaf), "c"(0));
-    return it;
-}
-
-/* The registers that the system saves for each thread. */
-static uint32_t saved(void) {
-    uint32_t low, high;
-    __asm__ volatile("xgetbv" : "=a"(low), "=d"(high) : "c"(0));
-    return low;
-}
-
-static bool has(uint32_t word, uint32_t bits) { return (word & bits) == bits; }
-
-/* Whether the processor has what x86-64-v3 has beyond x86-64-v2, and the system saves its registers. */
-static bool has_v3(void) {
-    const uint32_t fma = 1u << 12, movbe = 1u << 22, osxsave = 1u << 27, avx = 1u << 28, f16c = 1u << 29;
-    const uint32_t bmi1 = 1u << 3, avx2 = 1u << 5, bmi2 = 1u << 8, lzcnt = 1u << 5, sse_and_avx = 6;
-    return cpuid(0).a >= 7 && cpuid(0x80000000).a >= 0x80000001 &&
-           has(cpuid(1).c, fma | movbe | osxsave | avx | f16c) && has(cpuid(7).b, bmi1 | avx2 | bmi2) &&
-           has(cpuid(0x80000001).c, lzcnt) && has(saved(), sse_and_avx);
-}
 
 /* For tests. Later calls use this level, 2 or 3, or for 0 that of the processor. If the processor does not have it, nothing
  * changes and the answer is false. */

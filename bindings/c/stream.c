@@ -17,6 +17,7 @@ static uint32_t write_body(const char *url, size_t len, FILE *file) {
 }
 
 int main(void) {
+    if (!data_url_is_supported()) return 1;
     size_t len = 0, room = 1 << 16, got;
     char *url = (char *)malloc(room);
     while (url && (got = fread(url + len, 1, room - len, stdin)) > 0) {

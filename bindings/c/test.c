@@ -812,6 +812,7 @@ static void small_rooms(void) {
 }
 
 int main(void) {
+    check(data_url_is_supported(), "the processor is too old", "");
     worked_urls();
     worked_texts();
     refusals();

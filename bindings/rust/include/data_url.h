@@ -9,6 +9,10 @@
  *     int main(void) {
  *         const char *url = "data:text/plain;base64,SGVsbG8h#part";
  *         char body[64];
+ *         if (!data_url_is_supported()) {
+ *             fputs("This processor is too old.\n", stderr);
+ *             return 1;
+ *         }
  *         struct data_url_answer got = data_url_body(url, strlen(url), body, sizeof body);
  *         if (got.status != DATA_URL_DONE) return 1;
  *         printf("%.*s, %zu bytes\n", (int)got.len, body, got.len);
@@ -54,6 +58,7 @@
  *     }
  *
  *     int main(void) {
+ *         if (!data_url_is_supported()) return 1;
  *         size_t len = 0, room = 1 << 16, got;
  *         char *url = (char *)malloc(room);
  *         while (url && (got = fread(url + len, 1, room - len, stdin)) > 0) {
@@ -92,6 +97,7 @@
  *     }
  *
  *     int main(void) {
+ *         if (!data_url_is_supported()) return 1;
  *         uint32_t status = decode(stdin, stdout);
  *         return status == DATA_URL_DONE && !ferror(stdin) && fflush(stdout) == 0 && !ferror(stdout) ? 0 : 1;
  *     }
@@ -110,6 +116,7 @@
  *         const char *type = count > 1 ? arguments[1] : "";
  *         char room[1024];
  *         const void *parts = room;
+ *         if (!data_url_is_supported()) return 1;
  *         struct data_url_answer got = data_url_type_parts(type, strlen(type), room, sizeof room);
  *         if (got.status != DATA_URL_DONE) return 1;
  *         print("type", data_url_part_next(&parts, &got.len));
@@ -159,6 +166,10 @@
  * PLATFORMS. Linux on x86-64 (level x86-64-v2 or higher) and aarch64. C99, C++11 and later. The library for x86-64 has each call
  * for x86-64-v2 and for x86-64-v3. The first call asks the processor which of them it can run.
  *
+ * OLD PROCESSORS. On a processor that is older than the library needs, a call ends the program with an illegal instruction.
+ * These are processors for x86-64 without SSE4.2 or POPCNT, from before 2009. data_url_is_supported runs on them too, and says
+ * so. Ask it before the first call, where a program may come to such a processor.
+ *
  * The functions add two things to calls that are proved: a pointer to no bytes may be null, and a state that is null, or
  * whose is_base64 is neither 0 nor 1, is DATA_URL_BAD_STATE.
  */
@@ -205,6 +216,10 @@ enum data_url_status {
     /* Base64 with a byte that is neither whitespace nor '=' nor a symbol: this plus the byte, 256 to 511. */
     DATA_URL_BASE64_UNEXPECTED_SYMBOL = 256
 };
+
+/* Whether this processor has the instructions that the other calls need. If not, do not call them. The answer does not
+ * change, so it need not be asked for again. */
+bool data_url_is_supported(void);
 
 struct data_url_answer {
     /* One of enum data_url_status, or DATA_URL_BASE64_UNEXPECTED_SYMBOL plus a byte. */
