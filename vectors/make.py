@@ -75,6 +75,12 @@ def header_parameters():
     yield from ("data:a/b" + it + ",x" for it in (";a=1;A=2", ";a=;a=2", ";a;a=2", ";b=1;a=2", ";a=1;b=2;a=3", ";;;a=1;;", "; a=1 ; b=2 ", ";a=1 b=2", ";charset=utf-8;charset=x", ";a=\"1;b=2\";c=3", ";a=\"1\\;b=2\";c=3"))
 
 
+def tokens():
+    """The characters of tokens that are neither letters nor digits, without `#`, in each part of a MIME type."""
+    yield from ("data:" + it.replace("*", c) + ",x" for c in "!$%&'*+-.^_`|~" for it in ("*/b", "a/*", "a/b;*=d", "a/b;c=*"))
+    yield from ("data:" + it + ",x" for it in joined(["a", "a`", "`a"], ["/"], ["b", "b`c"], ["", ";c=d", ";c`=d", ";`c=d;e=f", ";c=`d`", ";c=\"`\""]))
+
+
 def escapes():
     digits = ["4", "1", "a", "F", "g", "%", "", "\t", "#"]
     yield from ("data:," + it for it in joined(["%"], digits, digits, ["1", ""]))
@@ -158,7 +164,7 @@ def texts_of(bits, seed, count, most, front=""):
 SUBJECTS = {
     "url": {
         "schemes": schemes, "commas": commas, "paths": paths, "headers": headers, "header_types": header_types,
-        "header_parameters": header_parameters, "escapes": escapes, "base64_bodies": base64_bodies, "spaces": spaces,
+        "header_parameters": header_parameters, "tokens": tokens, "escapes": escapes, "base64_bodies": base64_bodies, "spaces": spaces,
         "tabs_and_newlines": tabs_and_newlines, "non_ascii": non_ascii, "fragments": fragments, "truncations": truncations,
         "long": long_ones, "mixed_urls": texts_of(URL_BITS, 1, 250, 12, "data:"),
         "mixed_base64_bodies": texts_of(URL_BITS + ["QUJD", "Q", "=", "%3D"] * 4, 4, 120, 9, "data:;base64,"),

@@ -32,6 +32,7 @@ const kinds = [
 const classes = [
   ['a space directly before `?`', (kind, input) => kind === 'url' && / [\t\n\r]*\?/.test(input)],
   ['a path that begins with `/`', (kind, input) => kind === 'url' && input.startsWith('data:/')],
+  ['a backtick in a MIME type', (kind, input) => kind === 'url' && /^[^,#]*`/.test(input)],
   ['whitespace at the end of a quoted value that is not closed', (kind, input) => kind === 'mime' && /"[^"]*[ \t\n\r]$/.test(input)],
 ];
 
