@@ -10,6 +10,7 @@ ghost use Rattle.std.specs.Prelude.{◌<◌};
 
 use data_url::forgiving_base64::{Decoder, decode_to_vec};
 use data_url::mime::Mime;
+use data_url::parts::{read_header, read_mime_type};
 use data_url::{DataUrl, FragmentIdentifier};
 use std::alloc::{AllocError, Global};
 use std::fmt::Display;
@@ -81,8 +82,47 @@ fn write_decode_to_vec<W: Write>(alloc: Global, url: &DataUrl<'_>, out: &mut W) 
     }
 }
 
+/// Calls `read_header`, for the length and then for the parts. Writes the parts, whether the body is base64, and the tail.
+fn write_header<W: Write>(alloc: Global, text: &str, out: &mut W) -> io::Result<()> {
+    write!(out, "read_header")?;
+    let len = match read_header(alloc, text, &mut []) {
+        Ok(header) => header.len,
+        Err(error) => return write_error(&error, out),
+    };
+    let mut parts = vec![in alloc; 0; len]?;
+    match read_header(alloc, text, &mut parts) {
+        Ok(header) => {
+            write!(out, " ")?;
+            write_bytes(&parts, out)?;
+            write!(out, " {} ", header.base64)?;
+            write_bytes(header.tail.as_bytes(), out)?;
+            writeln!(out)
+        }
+        Err(error) => write_error(&error, out),
+    }
+}
+
+/// Calls `read_mime_type`, for the length and then for the parts, and writes these.
+fn write_mime_parts<W: Write>(alloc: Global, text: &str, out: &mut W) -> io::Result<()> {
+    write!(out, "read_mime_type")?;
+    let len = match read_mime_type(alloc, text, &mut []) {
+        Ok(len) => len,
+        Err(error) => return write_error(&error, out),
+    };
+    let mut parts = vec![in alloc; 0; len]?;
+    match read_mime_type(alloc, text, &mut parts) {
+        Ok(_) => {
+            write!(out, " ")?;
+            write_bytes(&parts, out)?;
+            writeln!(out)
+        }
+        Err(error) => write_error(&error, out),
+    }
+}
+
 /// Makes the calls on a URL. Its body is decoded four times, twice by `decode`.
 fn write_url<W: Write>(alloc: Global, text: &str, out: &mut W) -> io::Result<()> {
+    write_header(alloc, text, out)?;
     write!(out, "process")?;
     let url = match DataUrl::process(alloc, text) {
         Ok(url) => url,
@@ -95,8 +135,9 @@ fn write_url<W: Write>(alloc: Global, text: &str, out: &mut W) -> io::Result<()>
     write_decode(alloc, &url, out)
 }
 
-/// Makes the calls on a MIME type: it is parsed, printed and copied.
+/// Makes the calls on a MIME type: it is written in parts, parsed, printed and copied.
 fn write_mime<W: Write>(alloc: Global, text: &str, out: &mut W) -> io::Result<()> {
+    write_mime_parts(alloc, text, out)?;
     write!(out, "from_str")?;
     let mime = match Mime::from_str(alloc, text) {
         Ok(mime) => mime,
