@@ -35,13 +35,13 @@
 //!
 //! Times as fast as the crate, from the shortest texts to long ones; `bindings/README.md` has a table of all rows.
 //!
-//! - [`DataUrl::process`]: 1.4 to 2.1 with a MIME type, 0.96 without a header, 0.90 with `;base64` alone.
-//! - With [`DataUrl::decode_to_vec`]: 0.95 without a header, 1.09 with `;base64` alone, otherwise 1.3 to 33. With
-//!   [`DataUrl::decode`]: 0.88, 0.96, and 1.2 to 25.
-//! - [`mime::Mime`] from a text: 1.05 to 1.17, printed 1.04 to 1.06.
-//! - [`forgiving_base64::decode_to_vec`]: 2.9 to 8.3. A [`forgiving_base64::Decoder`]: 1.41 to 13; 0.55 for 8 symbols,
-//!   and 0.39 if it is fed ten at a time.
-//! - [`FragmentIdentifier::to_percent_encoded`]: 1.5 to 10, with `process` and `decode`.
+//! - [`DataUrl::process`]: 1.6 to 2.5 with a MIME type, 1.06 without a header, 1.07 with `;base64` alone.
+//! - With [`DataUrl::decode_to_vec`]: 1.10 without a header, 1.28 with `;base64` alone, otherwise 1.4 to 33. With
+//!   [`DataUrl::decode`]: 0.99, 1.08, and 1.2 to 25.
+//! - [`mime::Mime`] from a text: 1.11 to 1.38, printed 1.07 to 1.26.
+//! - [`forgiving_base64::decode_to_vec`]: 2.6 to 8.3. A [`forgiving_base64::Decoder`]: 1.73 to 13; 0.52 for 8 symbols,
+//!   and 0.50 if it is fed ten at a time.
+//! - [`FragmentIdentifier::to_percent_encoded`]: 1.67 to 11, with `process` and `decode`.
 //!
 //! # Example
 //!
