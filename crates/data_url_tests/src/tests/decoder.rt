@@ -7,7 +7,7 @@ use std::process::Abort;
 use std::test::Fail;
 
 /// Texts of base64 in parts, the bytes that the closure is called with, and the message of the error.
-const TEXTS: [(&[&[u8]], &str, &str); 6] = [
+const TEXTS: [(&[&[u8]], &str, &str); 11] = [
     (&[b"ab="], "", "base64 not valid: incorrect padding"),
     (&[b"Y", b"W", b" ", b"J", b"="], "ab", ""),
     (
@@ -22,6 +22,15 @@ const TEXTS: [(&[&[u8]], &str, &str); 6] = [
         "base64 not valid: symbol with codepoint 33 not expected",
     ),
     (&[b"YWJ"], "ab", ""),
+    (&[], "", ""),
+    (&[b""], "", ""),
+    (&[b"", b"Y", b"", b"", b"WJ", b"=", b""], "ab", ""),
+    (&[b"QUJD", b"", b"QUI"], "ABCAB", ""),
+    (
+        &[b"Y", b"", b"=", b""],
+        "",
+        "base64 not valid: lone alphabet symbol present",
+    ),
 ];
 
 /// Asserts what a decoder does with a text, by `finish` and by `finish_with`, and what an error of each call does.
@@ -62,5 +71,31 @@ fn spaces_between_symbols(rt: HostRuntime) -> Result<(), Fail> {
     let bytes = "ABC".repeat(rt.alloc(), 1000)?;
     let source = Source::Base64(&[text.as_bytes()]);
     source.assert_is(&rt, rt.alloc(), "spaces", bytes.as_bytes(), "")?;
+    Ok(())
+}
+
+/// Feeds `QQ` and 258 `=` byte by byte. In eight bits, 258 is counted as two, which would fit.
+#[test]
+fn padding_signs_fed_one_by_one(rt: HostRuntime) -> Result<(), Fail> {
+    let signs = "=".repeat(rt.alloc(), 258)?;
+    let text = format!(in rt.alloc(); "QQ{signs}")?;
+    let mut bytes = Vec::new(rt.alloc());
+    for byte in text.as_bytes().chunks(1) {
+        bytes.push(byte)?;
+    }
+    let source = Source::Base64(bytes.as_slice());
+    let padding = "base64 not valid: incorrect padding";
+    source.assert_is(&rt, rt.alloc(), "signs", b"", padding)?;
+    Ok(())
+}
+
+/// A text with 121 calls, of which the last is also refused.
+#[test]
+fn more_calls_than_a_hundred(rt: HostRuntime) -> Result<(), Fail> {
+    let text = "QUJD".repeat(rt.alloc(), 1921)?;
+    let bytes = "ABC".repeat(rt.alloc(), 1921)?;
+    let source = Source::Base64(&[text.as_bytes()]);
+    let record = source.assert_is(&rt, rt.alloc(), "calls", bytes.as_bytes(), "")?;
+    assert_that(&rt, "calls", record.lengths.len() == 121);
     Ok(())
 }

@@ -1,5 +1,6 @@
 //! Fragments in parts, beside what encodes them at once.
 
+use super::recorder::fragment_text;
 use super::{assert_same, assert_that};
 use data_url::DataUrl;
 use data_url::parts::{Encoded, encode_fragment};
@@ -111,6 +112,53 @@ fn outputs_without_room(rt: HostRuntime) -> Result<(), Fail> {
         let mut room = [UNTOUCHED; 2];
         let (output, _) = room.split_at_mut(size);
         let Encoded { read, len } = encode_fragment(b"a", output);
+        assert_that(&rt, "nothing", (read == 0) & (len == 0));
+        assert_that(&rt, "output", room.iter().all(|byte| *byte == UNTOUCHED));
+    }
+    Ok(())
+}
+
+/// Returns `#` and the fragment of a URL with this text after its `#`, percent-encoded.
+fn encoded_of(alloc: Global, text: &str) -> Result<String, Fail> {
+    let url = format!(in alloc; "data:,#{text}")?;
+    let url = DataUrl::process(alloc, url.as_str())?;
+    let Ok(fragment) = url.decode(|_: &[u8]| -> Result<(), Infallible> { Ok(()) }) else {
+        return Ok(String::new(alloc));
+    };
+    Ok(fragment_text(alloc, fragment)?)
+}
+
+/// Asserts that a fragment, encoded, is read again and encoded to itself.
+fn assert_encoded_again(rt: &impl Abort, alloc: Global, text: &str) -> Result<(), Fail> {
+    let once = encoded_of(alloc, text)?;
+    assert_that(rt, text, once.as_str().starts_with('#'));
+    let again = encoded_of(alloc, once.as_str().get(1..).unwrap_or(""))?;
+    assert_same(rt, text, again.as_bytes(), once.as_bytes());
+    Ok(())
+}
+
+#[test]
+fn fragments_are_encoded_and_read_again(rt: HostRuntime) -> Result<(), Fail> {
+    for (text, _) in FRAGMENTS.as_slice() {
+        assert_encoded_again(&rt, rt.alloc(), text)?;
+    }
+    for byte in 0..=u8::MAX {
+        let c = char::from(byte);
+        let text = format!(in rt.alloc(); "{c}a{c}{c}%{c}4#{c}z")?;
+        assert_encoded_again(&rt, rt.alloc(), text.as_str())?;
+        let text = text.as_str().repeat(rt.alloc(), 40)?;
+        assert_encoded_again(&rt, rt.alloc(), text.as_str())?;
+    }
+    Ok(())
+}
+
+/// What is encoded of an empty text is empty, whatever the output.
+#[test]
+fn an_empty_text(rt: HostRuntime) -> Result<(), Fail> {
+    for size in 0..4 {
+        let mut room = [UNTOUCHED; 3];
+        let (output, _) = room.split_at_mut(size);
+        let Encoded { read, len } = encode_fragment(b"", output);
         assert_that(&rt, "nothing", (read == 0) & (len == 0));
         assert_that(&rt, "output", room.iter().all(|byte| *byte == UNTOUCHED));
     }

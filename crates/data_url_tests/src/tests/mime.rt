@@ -49,6 +49,71 @@ fn records_are_compared(rt: HostRuntime) -> Result<(), Fail> {
     Ok(())
 }
 
+/// A copy of each of two records has the same texts.
+#[test]
+fn records_are_cloned(rt: HostRuntime) -> Result<(), Fail> {
+    let plain = Mime::new(rt.alloc(), "text", "plain")?.clone()?;
+    assert_that(&rt, "plain", plain.matches("text", "plain"));
+    assert_printed(&rt, rt.alloc(), "plain", &plain, "text/plain")?;
+    let html = record_of(rt.alloc(), ["text", "html", "one", "two"])?;
+    let copy = html.clone()?;
+    assert_that(&rt, "html", copy.matches("text", "html") & (copy == html));
+    assert_that(&rt, "one", copy.get_parameter("one") == Some("two"));
+    assert_printed(&rt, rt.alloc(), "html", &copy, "text/html;one=two")?;
+    Ok(())
+}
+
+/// MIME types, of which most have values that are printed in quotes, or have no value that is kept.
+const TYPES: [&str; 16] = [
+    "TEXT/HTML;a=\"b;c\";d=;e=\"\"",
+    "x/x;a=\"q\\\"r\";b=\"\\a\";c=d\"e;f=\"g",
+    "x/x;a=\"\\",
+    "x/x;a=\"\\\\\\\"\\\\\"",
+    "x/x;a=\"b\"\u{100};c=d",
+    "x/x;a=\"b;\u{100}\";c=d",
+    "x/x;a=b c ;d= e",
+    "x/x;a=\"b\tc\";d=\te\t",
+    " a/b ; c=d ",
+    "x/x;a=1;A=2;b=\"3\";B=4",
+    "x/x;a=b=c;d==",
+    "x/x;a=/;b=@;c=(;d=?",
+    "x/x;a=\u{e9}\u{ff};b=\u{80}",
+    "x/x;;;a=b;;",
+    "!#$%&'*+-.^_|~/`;0=\"1\"",
+    "x/x",
+];
+
+/// Asserts that the record of a text is printed to a text that has the same record, and is printed alike.
+fn assert_printed_again(rt: &impl Abort, alloc: Global, text: &str) -> Result<(), Fail> {
+    let mime = Mime::from_str(alloc, text)?;
+    let printed = format!(in alloc; "{mime}")?;
+    let again = Mime::from_str(alloc, printed.as_str())?;
+    assert_that(rt, text, again == mime);
+    assert_printed(rt, alloc, text, &again, printed.as_str())?;
+    Ok(())
+}
+
+#[test]
+fn records_are_printed_and_parsed_again(rt: HostRuntime) -> Result<(), Fail> {
+    for text in &TYPES {
+        assert_printed_again(&rt, rt.alloc(), text)?;
+    }
+    Ok(())
+}
+
+/// Each of the first 256 code points, in a name, in values with and without quotes, and after a `\`.
+#[test]
+fn records_of_each_code_point(rt: HostRuntime) -> Result<(), Fail> {
+    for byte in 0..=u8::MAX {
+        let c = char::from(byte);
+        let names = format!(in rt.alloc(); "x/x;a{c}b=1;c=d{c}e;f={c}")?;
+        assert_printed_again(&rt, rt.alloc(), names.as_str())?;
+        let quoted = format!(in rt.alloc(); "x/x;a=\"{c}\";b=\"c\\{c}d{c}\"e;f={c}g\"")?;
+        assert_printed_again(&rt, rt.alloc(), quoted.as_str())?;
+    }
+    Ok(())
+}
+
 #[test]
 fn the_order_of_parameters_counts(rt: HostRuntime) -> Result<(), Fail> {
     let first = Mime::from_str(rt.alloc(), "x/x;a=1;b=2")?;

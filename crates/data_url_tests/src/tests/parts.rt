@@ -341,6 +341,36 @@ fn feed_in(
     })
 }
 
+/// Feeds the bytes of a text one by one, and an empty part before each and at the end, to an output with room for a group and its
+/// rest.
+#[test]
+fn empty_parts_and_many_padding_signs(rt: HostRuntime) -> Result<(), Fail> {
+    let signs = "=".repeat(rt.alloc(), 258)?;
+    let many = format!(in rt.alloc(); "QQ{signs}")?;
+    for (text, number, wanted) in [
+        (many.as_str(), 258, ""),
+        ("QUJDQUI=", VALID, "ABCAB"),
+    ].as_slice()
+    {
+        let mut bytes = Vec::new(rt.alloc());
+        let mut left_over = LeftOver::new();
+        for byte in text.as_bytes().chunks(1) {
+            let (_, kept) = feed(&rt, left_over, b"", 5, &mut bytes)?;
+            let (_, kept) = feed(&rt, kept.unwrap_or(LeftOver::new()), byte, 5, &mut bytes)?;
+            left_over = kept.unwrap_or(LeftOver::new());
+        }
+        let (read, kept) = feed(&rt, left_over, b"", 0, &mut bytes)?;
+        assert_that(&rt, text, (read == 0) & kept.is_ok());
+        let mut last = [UNTOUCHED; 2];
+        let finished = left_over.finish(&mut last);
+        take_front(&rt, &last, finished.unwrap_or(0), &mut bytes)?;
+        let found = finished.map_or_else(number_of, |_| VALID);
+        assert_that(&rt, text, found == *number);
+        assert_same(&rt, text, bytes.as_slice(), wanted.as_bytes());
+    }
+    Ok(())
+}
+
 #[test]
 fn base64_in_parts(rt: HostRuntime) -> Result<(), Fail> {
     for (text, number) in TEXTS.as_slice() {

@@ -201,7 +201,7 @@ impl<'a> Source<'a> {
         Ok(())
     }
 
-    /// Asserts what an error of each of the first calls does, up to a hundred of them.
+    /// Asserts what an error of each of the first calls does, up to a hundred of them, and one of the last call.
     fn assert_each_refused(
         &self,
         rt: &impl Abort,
@@ -212,6 +212,9 @@ impl<'a> Source<'a> {
     ) -> Result<(), AllocError> {
         for refused in 1..calls.min(REFUSALS).saturating_add(1) {
             self.assert_refused(rt, alloc, about, bytes, refused)?;
+        }
+        if calls > REFUSALS {
+            self.assert_refused(rt, alloc, about, bytes, calls)?;
         }
         Ok(())
     }
@@ -230,8 +233,8 @@ impl<'a> Source<'a> {
         Ok(())
     }
 
-    /// Asserts the bytes and the result, and what an error of each of the first hundred calls does, and one of the call
-    /// after the last one.
+    /// Asserts the bytes and the result, and what an error of each of the first hundred calls does, one of the last call,
+    /// and one of the call after it.
     pub fn assert_is(
         &self,
         rt: &impl Abort,

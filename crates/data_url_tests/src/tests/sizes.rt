@@ -26,6 +26,19 @@ fn assert_plain(rt: &impl Abort, alloc: Global, count: usize) -> Result<(), Fail
     Ok(())
 }
 
+/// Asserts the record of a URL whose header has to be encoded: `count` letters that are not ASCII are in its path, and as many
+/// in its query.
+fn assert_encoded_header(rt: &impl Abort, alloc: Global, count: usize) -> Result<(), Fail> {
+    let letters = "\u{e9}".repeat(alloc, count)?;
+    let encoded = "%C3%A9".repeat(alloc, count)?;
+    let text = format!(in alloc; "data:a/b;c={letters} ?{letters} ,e")?;
+    let url = DataUrl::process(alloc, text.as_str())?;
+    let record = format!(in alloc; "a/b;c=\"{encoded}%20?{encoded}%20\"")?;
+    assert_printed(rt, alloc, "header", url.mime_type(), record.as_str())?;
+    assert_whole_body(rt, alloc, "body", &url, b"e", "")?;
+    Ok(())
+}
+
 /// Asserts the bytes of `count` groups, as the body of a URL and as a text.
 fn assert_base64(rt: &impl Abort, alloc: Global, count: usize) -> Result<(), Fail> {
     let symbols = "QUJD".repeat(alloc, count)?;
@@ -58,6 +71,14 @@ fn assert_mime(rt: &impl Abort, alloc: Global, count: usize) -> Result<(), Fail>
 fn urls_of_each_size(rt: HostRuntime) -> Result<(), Fail> {
     for power in 0..=MOST {
         assert_plain(&rt, rt.alloc(), 1 << power)?;
+    }
+    Ok(())
+}
+
+#[test]
+fn headers_of_each_size(rt: HostRuntime) -> Result<(), Fail> {
+    for power in 0..MOST {
+        assert_encoded_header(&rt, rt.alloc(), 1 << power)?;
     }
     Ok(())
 }
