@@ -10,6 +10,8 @@ mod output;
 mod program;
 mod run;
 mod stream;
+#[cfg(test)]
+mod tests;
 
 use fault::Fault;
 use program::execute;
