@@ -4,7 +4,7 @@
 //
 // URLs go through `fetch`, MIME types through `MIMEType` of node:util, and base64 through `atob`. Where these fail they tell
 // neither why nor what came before, so any failure agrees with any refusal. Nothing is fetched from a network. The status is
-// 1 where node 20, of which docs/OTHERS.md tells, has a difference that is of no class there.
+// 1 where node 20, of which docs/DIFFERENCES.md tells, has a difference that is of no class there.
 import { readdirSync, readFileSync } from 'node:fs';
 import { MIMEType } from 'node:util';
 
