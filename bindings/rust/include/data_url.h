@@ -136,6 +136,12 @@
  * What it holds before the call is never read. A call writes the first `len` bytes and leaves the rest as it was. With the
  * status DATA_URL_OUTPUT_TOO_SMALL it writes nothing.
  *
+ * STATES. A state is the caller's, and is written by the calls that take it. No other argument of a call may overlap it: not the
+ * text, and not the output. It may be null, and then the call returns DATA_URL_BAD_STATE.
+ *
+ * NULL. No pointer may be null but these: to a text of no bytes, to an output with no room, and to a state. What
+ * data_url_part_next takes may not be null, and its two arguments may not overlap each other or the parts.
+ *
  * LENGTHS. `len` of an answer is how many bytes were written, but for one status: with DATA_URL_OUTPUT_TOO_SMALL nothing was
  * written, and `len` is the room that is needed. A second call with that much room succeeds. So a call with no room asks for the
  * length. data_url_body_next and data_url_base64_feed write as much as there is room for: their `len` is always how many bytes
