@@ -179,13 +179,17 @@ fn written<A, T>(
     read(&given, bytes)
 }
 
-/// A text that the library wrote, which is UTF-8.
-fn text_of(bytes: &[u8]) -> &str {
-    unsafe { core::str::from_utf8_unchecked(bytes) }
+/// Returns bytes as a text.
+///
+/// # Safety
+///
+/// They are UTF-8, as each text that the library writes.
+unsafe fn text_of(bytes: &[u8]) -> &str {
+    core::str::from_utf8_unchecked(bytes)
 }
 
 /// The parts of a MIME type that are left: the type, the subtype, and the name and the value of each parameter. Each
-/// comes after its length.
+/// comes after its length. Only `open` and `mime_type` make one, of what the library wrote, so each part is UTF-8.
 #[derive(Clone)]
 pub(crate) struct Parts<'a>(&'a [u8]);
 
@@ -213,7 +217,8 @@ impl<'a> Iterator for Parts<'a> {
         let len = u64::from_le_bytes(len.try_into().expect("eight bytes")) as usize;
         let (part, rest) = rest.split_at(len);
         self.0 = rest;
-        Some(text_of(part))
+        // The library wrote the parts.
+        Some(unsafe { text_of(part) })
     }
 }
 
