@@ -1,7 +1,8 @@
 //! Links `libdata_url.a`: that of the folder that `DATA_URL_LIB` names or, without it, that of `prebuilt/TARGET` in this package.
 //!
-//! In a checkout, `../build` is the script that proves and builds the library. Then that of `../out/TARGET` comes first, where the
-//! script puts it. If there is none in either folder, it is built, which needs the Rattle kit.
+//! In a checkout, the script `../archive` says which library is taken, as for the tests in C: that of `../out/TARGET`, where
+//! `../build` puts one, and otherwise that of `prebuilt`. It refuses one that was not built from the sources as they are. If there
+//! is none in either folder, it is built, which needs the Rattle kit.
 
 use std::env;
 use std::fs::read;
@@ -10,6 +11,18 @@ use std::process::{exit, Command, Stdio};
 
 /// The call by which tests choose a level. Only the library for x86-64 that has both levels has it.
 const FORCE_LEVEL: &[u8] = b"dataurl_force_level";
+
+/// What the library is built from, and the scripts that say which one is taken, in `bindings`.
+const SOURCES: [&str; 8] = [
+    "../crates/data_url/src",
+    "../crates/data_url_c/src",
+    "align",
+    "archive",
+    "build",
+    "c",
+    "rust/include",
+    "sources",
+];
 
 /// Ends the build with one line.
 fn fail(why: &str) -> ! {
@@ -52,6 +65,25 @@ fn build(bindings: &Path, target: &str) {
     }
 }
 
+/// The folder that `bindings/archive` names for a target. Cargo asks again if a source of the library changes. Where a script in
+/// bash does not run, nothing was built, and the kept library is the one.
+fn chosen(bindings: &Path, target: &str, kept: PathBuf) -> PathBuf {
+    for source in &SOURCES {
+        let path = bindings.join(source);
+        if path.exists() {
+            println!("cargo:rerun-if-changed={}", path.display());
+        }
+    }
+    let archive = Command::new(bindings.join("archive")).arg(target).output();
+    match archive {
+        Err(_) => kept,
+        Ok(said) if said.status.success() => {
+            PathBuf::from(String::from_utf8_lossy(&said.stdout).trim_end())
+        }
+        Ok(said) => fail(String::from_utf8_lossy(&said.stderr).trim_end()),
+    }
+}
+
 /// The folder with the archive.
 fn folder() -> PathBuf {
     if let Some(given) = env::var_os("DATA_URL_LIB") {
@@ -61,19 +93,17 @@ fn folder() -> PathBuf {
     let target = target();
     let kept = package.join("prebuilt").join(target);
     let bindings = package.join("..");
-    let built = bindings.join("out").join(target);
-    let is_checkout = bindings.join("build").is_file();
-    if is_checkout && built.join("libdata_url.a").exists() {
-        return built;
-    }
-    if kept.join("libdata_url.a").exists() {
+    let has_library = |folder: &Path| folder.join("libdata_url.a").exists();
+    if !bindings.join("archive").is_file() {
+        if !has_library(&kept) {
+            fail(&format!("there is no {}/libdata_url.a", kept.display()));
+        }
         return kept;
     }
-    if !is_checkout {
-        fail(&format!("there is no {}/libdata_url.a", kept.display()));
+    if !has_library(&bindings.join("out").join(target)) && !has_library(&kept) {
+        build(&bindings, target);
     }
-    build(&bindings, target);
-    built
+    chosen(&bindings, target, kept)
 }
 
 fn main() {
