@@ -1,4 +1,5 @@
-/* What a processor of the architecture x86-64 can do. It needs <stdbool.h> and <stdint.h>. */
+/* What a processor of the architecture x86-64 can do. It needs <stdbool.h> and <stdint.h>. A test that defines PROCESSOR_IS_MADE_UP
+ * answers the two instructions itself. */
 #ifndef DATA_URL_PROCESSOR_H
 #define DATA_URL_PROCESSOR_H
 
@@ -6,6 +7,10 @@ struct registers {
     uint32_t a, b, c, d;
 };
 
+#ifdef PROCESSOR_IS_MADE_UP
+static struct registers cpuid(uint32_t leaf);
+static uint32_t saved(void);
+#else
 static inline struct registers cpuid(uint32_t leaf) {
     struct registers it;
     __asm__ volatile("cpuid" : "=a"(it.a), "=b"(it.b), "=c"(it.c), "=d"(it.d) : "a"(leaf), "c"(0));
@@ -18,6 +23,7 @@ static inline uint32_t saved(void) {
     __asm__ volatile("xgetbv" : "=a"(low), "=d"(high) : "c"(0));
     return low;
 }
+#endif
 
 static inline bool has(uint32_t word, uint32_t bits) { return (word & bits) == bits; }
 
