@@ -186,7 +186,7 @@
 #include <stddef.h>
 #include <stdint.h>
 
-#define DATA_URL_VERSION "0.1.0"
+#define DATA_URL_VERSION "0.2.0"
 
 #ifdef __cplusplus
 extern "C" {
