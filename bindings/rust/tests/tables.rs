@@ -278,6 +278,43 @@ fn urls() {
     URLS.iter().for_each(|row| assert_url(*row));
 }
 
+/// Headers that name no type, that name the one which stands for these, and that name one which is nearly the same. The body says
+/// whether it is base64.
+#[test]
+fn headers_around_the_default_type() {
+    #[rustfmt::skip]
+    let headers = [
+        ["", DEFAULT],
+        [":", DEFAULT],
+        [";", "text/plain"],
+        ["text/plain;charset=US-ASCII", DEFAULT],
+        ["TEXT/PLAIN;CHARSET=US-ASCII", DEFAULT],
+        ["text/plain;charset=\"US-ASCII\"", DEFAULT],
+        [";charset=US-ASCII", DEFAULT],
+        [";charset=x", "text/plain;charset=x"],
+        [";CHARSET=US-ASCIJ", "text/plain;charset=US-ASCIJ"],
+        ["text/plain;charset=us-ascii", "text/plain;charset=us-ascii"],
+        ["text/plain;charset=US-ASCII;a=b", "text/plain;charset=US-ASCII;a=b"],
+        ["text/plain;charset=US-ASCI", "text/plain;charset=US-ASCI"],
+        ["text/plain;charsex=US-ASCII", "text/plain;charsex=US-ASCII"],
+        ["text/plaim;charset=US-ASCII", "text/plaim;charset=US-ASCII"],
+        ["next/plain;charset=US-ASCII", "next/plain;charset=US-ASCII"],
+        ["text/plain", "text/plain"],
+        ["a/b;c=:", "a/b;c=\":\""],
+    ];
+    for scheme in ["data:", "DATA:", "\tdA\nta:"] {
+        for [header, record] in headers {
+            assert_url([&format!("{}{},QQ", scheme, header), record, "QQ", ""]);
+            let base64 = format!("{}{};base64", scheme, header);
+            assert_url([&format!("{},QQ", base64), record, "A", ""]);
+            assert_url([&format!("{},#:,", base64), record, "", "#:,"]);
+        }
+    }
+    for text in ["data:,", "DATA:,", "data::,", "data:;base64,"] {
+        assert_url([text, DEFAULT, "", ""]);
+    }
+}
+
 #[test]
 fn mime_types() {
     MIME_TYPES

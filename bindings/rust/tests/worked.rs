@@ -5,6 +5,7 @@ mod level;
 use data_url::forgiving_base64::{self, DecodeError, Decoder};
 use data_url::mime::Mime;
 use data_url::{DataUrl, DataUrlError};
+use std::cell::RefCell;
 
 #[test]
 fn refusals() {
@@ -106,6 +107,92 @@ fn a_decoder_that_has_failed_fails_again() {
     assert!(decoder.feed(b"QUJD").is_err());
     assert!(decoder.finish().is_err());
     assert_eq!(bytes, b"ABC");
+}
+
+/// The pieces of a text that a decoder is fed in parts of a length, up to a call of the closure that returns an error, and how
+/// feeding and finishing ended. Asserts that the error ends the call in which it was returned, and that no other call ends.
+fn fed_pieces(text: &[u8], part: usize, refused: usize) -> (Vec<Vec<u8>>, Result<(), String>) {
+    let pieces = RefCell::new(Vec::new());
+    let mut decoder = Decoder::new(|piece: &[u8]| {
+        let mut pieces = pieces.borrow_mut();
+        pieces.push(piece.to_vec());
+        if pieces.len() == refused {
+            Err(format!("call {}", refused))
+        } else {
+            Ok(())
+        }
+    });
+    let mut ended = Ok(());
+    for part in text.chunks(part) {
+        ended = decoder.feed(part);
+        let is_refused = refused > 0 && pieces.borrow().len() == refused;
+        assert_eq!(matches!(ended, Err(DecodeError::WriteError(_))), is_refused);
+        if ended.is_err() {
+            break;
+        }
+    }
+    let ended = ended.and_then(|()| decoder.finish());
+    (
+        pieces.into_inner(),
+        ended.map_err(|error| error.to_string()),
+    )
+}
+
+/// A part of 512 bytes or more is fed through a larger buffer than a shorter one, and a long one needs that more than once.
+#[test]
+fn closures_of_a_decoder_that_refuse_each_call() {
+    for (text, end) in [
+        ("QUJD".to_owned(), Ok(())),
+        ("QUI=".to_owned(), Ok(())),
+        ("QUJDQQ".to_owned(), Ok(())),
+        ("QUJDQ".to_owned(), Err("lone alphabet symbol present")),
+        (
+            "QUJD!".to_owned(),
+            Err("symbol with codepoint 33 not expected"),
+        ),
+        ("QUJDRUZH".repeat(6_000) + "QQ", Ok(())),
+        (
+            "QUJDRUZH\n".repeat(6_000) + "Q=",
+            Err("lone alphabet symbol present"),
+        ),
+        (
+            "QUJDRUZH".repeat(6_000) + "=Q",
+            Err("alphabet symbol present after padding"),
+        ),
+    ] {
+        let wanted = end.map_err(|fault| format!("base64 not valid: {}", fault));
+        for part in [1, 3, 511, 512, 20_000, 60_000] {
+            if part < 500 && text.len() > 100 {
+                continue;
+            }
+            let (all, ended) = fed_pieces(text.as_bytes(), part, 0);
+            assert!(all.iter().all(|piece| !piece.is_empty()));
+            assert_eq!(ended, wanted);
+            for n in 1..=all.len() {
+                let (some, ended) = fed_pieces(text.as_bytes(), part, n);
+                assert!(some == all[..n], "the calls up to the refused one");
+                assert_eq!(ended, Err(format!("write error: call {}", n)));
+            }
+        }
+    }
+}
+
+#[test]
+fn the_first_of_equal_names() {
+    let pair = |name: &str, value: &str| (name.to_owned(), value.to_owned());
+    let mut mime = Mime::new("a", "b");
+    mime.parameters = vec![
+        pair("c", "1"),
+        pair("d", "2"),
+        pair("c", "3"),
+        pair("d", "4"),
+        pair("C", "5"),
+    ];
+    assert_eq!(mime.get_parameter("c"), Some("1"));
+    assert_eq!(mime.get_parameter("d"), Some("2"));
+    assert_eq!(mime.get_parameter("C"), Some("5"));
+    assert_eq!(mime.get_parameter("e"), None);
+    assert_eq!(mime.to_string(), "a/b;c=1;d=2;c=3;d=4;C=5");
 }
 
 /// Bodies of every kind; long ones have more than one piece.
