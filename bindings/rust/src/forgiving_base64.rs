@@ -46,9 +46,6 @@ impl fmt::Display for InvalidBase64 {
     }
 }
 
-#[cfg(feature = "std")]
-impl std::error::Error for InvalidBase64 {}
-
 /// Why decoding ended early.
 #[derive(Debug)]
 pub enum DecodeError<E> {
@@ -56,6 +53,15 @@ pub enum DecodeError<E> {
     InvalidBase64(InvalidBase64),
     /// The closure returned this error.
     WriteError(E),
+}
+
+#[cfg(feature = "std")]
+mod errors {
+    use super::{DecodeError, InvalidBase64};
+    use std::error::Error;
+
+    impl Error for InvalidBase64 {}
+    impl<E: Error> Error for DecodeError<E> {}
 }
 
 impl<E: fmt::Display> fmt::Display for DecodeError<E> {
@@ -67,9 +73,6 @@ impl<E: fmt::Display> fmt::Display for DecodeError<E> {
         write!(f, "{}: {}", what, why)
     }
 }
-
-#[cfg(feature = "std")]
-impl<E: std::error::Error> std::error::Error for DecodeError<E> {}
 
 /// Decodes a whole text. Room that is more than twice the length of the result and more than 4 KiB is given back.
 ///
@@ -94,10 +97,7 @@ where
     write_bytes: F,
 }
 
-impl<F, E> Decoder<F, E>
-where
-    F: FnMut(&[u8]) -> Result<(), E>,
-{
+impl<F: FnMut(&[u8]) -> Result<(), E>, E> Decoder<F, E> {
     /// Returns a decoder that has seen no text.
     pub fn new(write_bytes: F) -> Self {
         Decoder {

@@ -57,13 +57,12 @@
 #![no_std]
 #![deny(missing_docs)]
 
-#[cfg(feature = "std")]
-extern crate std;
+#[cfg(not(feature = "alloc"))]
+compile_error!("data-url: its feature `alloc` is needed");
 
 extern crate alloc;
-
-#[cfg(not(feature = "alloc"))]
-compile_error!("the `alloc` feature must be enabled");
+#[cfg(feature = "std")]
+extern crate std;
 
 use alloc::string::String;
 use alloc::vec::Vec;
@@ -99,6 +98,9 @@ pub enum DataUrlError {
     NoComma,
 }
 
+#[cfg(feature = "std")]
+impl std::error::Error for DataUrlError {}
+
 impl fmt::Display for DataUrlError {
     fn fmt(&self, f: &mut fmt::Formatter<'_>) -> fmt::Result {
         f.write_str(match self {
@@ -107,9 +109,6 @@ impl fmt::Display for DataUrlError {
         })
     }
 }
-
-#[cfg(feature = "std")]
-impl std::error::Error for DataUrlError {}
 
 impl<'a> DataUrl<'a> {
     /// Reads the header of a data: URL. The body is not read.

@@ -8,7 +8,7 @@ use alloc::vec::Vec;
 use core::fmt;
 use core::str::FromStr;
 
-/// <https://mimesniff.spec.whatwg.org/#mime-type-representation>
+/// A MIME type, as the standard represents it: <https://mimesniff.spec.whatwg.org/#mime-type-representation>
 #[derive(Clone, Debug, PartialEq, Eq)]
 pub struct Mime {
     /// The type, as `text` of `text/html`.
