@@ -65,8 +65,9 @@ fn build(bindings: &Path, target: &str) {
     }
 }
 
-/// The folder that `bindings/archive` names for a target. Cargo asks again if a source of the library changes. Where a script in
-/// bash does not run, nothing was built, and the kept library is the one.
+/// The folder that `bindings/archive` names for a target. Cargo asks again if a source of the library changes. The status 1 refuses
+/// a library. With any other the script did not run, as where there is no bash: then nothing was built here, and the kept library
+/// is the one.
 fn chosen(bindings: &Path, target: &str, kept: PathBuf) -> PathBuf {
     for source in &SOURCES {
         let path = bindings.join(source);
@@ -76,11 +77,16 @@ fn chosen(bindings: &Path, target: &str, kept: PathBuf) -> PathBuf {
     }
     let archive = Command::new(bindings.join("archive")).arg(target).output();
     match archive {
-        Err(_) => kept,
         Ok(said) if said.status.success() => {
             PathBuf::from(String::from_utf8_lossy(&said.stdout).trim_end())
         }
-        Ok(said) => fail(String::from_utf8_lossy(&said.stderr).trim_end()),
+        Ok(said) if said.status.code() == Some(1) => {
+            fail(String::from_utf8_lossy(&said.stderr).trim_end())
+        }
+        _ => {
+            println!("cargo:warning=bindings/archive did not run, so the sources are not compared");
+            kept
+        }
     }
 }
 
