@@ -1,7 +1,7 @@
 //! The header of a data: URL (Fetch Standard, section 6), from its text in the input.
 
-ghost use Rattle.std.specs.Prelude.{◌≡◌, if◌then◌else◌, [], IfOk, IfSome, List, MatchOption, codes, string_bytes, true, ℕ};
-ghost use Rattle.std.specs.Str.{chars};
+ghost use Rattle.std.specs.Prelude.{◌≡◌, if◌then◌else◌, [], IfOk, IfSome, List, MatchOption, codes, map, string_bytes, true, ℕ};
+ghost use Rattle.std.specs.{Char.{to_ascii_lowercase}, Str.{bytes_eq, chars}};
 ghost use Rattle.data_url.specs.{Url.{without_tabs_and_newlines}, Fetch.{before_base64, with_plain}};
 ghost use Rattle.data_url.specs.Mime.{IsHead, Record, default_record};
 ghost use Rattle.data_url.specs.Steps.{MimeParts.{WritesParts}, Parsing.{HasNoHead}};
@@ -48,6 +48,15 @@ fn serialised(alloc: Global, header: &[u8]) -> Result<String, AllocError>
     Ok(text)
 }
 
+/// Returns whether bytes are `base64` in any ASCII case. Most are in lower case, which is faster to test.
+#[inline(always)]
+fn is_suffix_word(word: &[u8]) -> bool
+    ensures { result ≡ bytes_eq (map to_ascii_lowercase word.now)
+        (map to_ascii_lowercase (codes "base64")) }
+{
+    word == SUFFIX.as_slice() || word.eq_ignore_ascii_case(&SUFFIX)
+}
+
 /// Returns the text before `;`, spaces and `base64` (in any ASCII case) at the end of a header, if it ends so.
 #[tactic(auto, using(crate::proofs::header::Serialising::suffixes))]
 fn without_suffix(header: &str) -> Option<&str>
@@ -57,7 +66,7 @@ fn without_suffix(header: &str) -> Option<&str>
 {
     let bytes = header.as_bytes();
     let word = bytes.len().checked_sub(SUFFIX.len())?;
-    if !bytes[word..].eq_ignore_ascii_case(&SUFFIX) {
+    if !is_suffix_word(&bytes[word..]) {
         return None;
     }
     let end = word - end_span(Class::Control, &bytes[..word]);
