@@ -149,17 +149,16 @@ static void expect_calls(int level) {
 }
 
 /* On a processor the first call asks it and takes its level, and the next ones do not ask. */
-static void expect_level(struct made_up processor, int level, const char *name) {
+static void expect_level(struct made_up processor, int wanted, const char *name) {
     here = processor;
-    level = level == 3 ? 3 : 2;
     expect(dataurl_force_level(0), "the level is not asked for again", name);
     asked = 0;
     dataurl_body(text, sizeof text, out, sizeof out);
-    expect(got.level == level && asked > 0, "the first call has another level", name);
+    expect(got.level == wanted && asked > 0, "the first call has another level", name);
     asked = 0;
     dataurl_body(text, sizeof text, out, sizeof out);
-    expect(got.level == level && asked == 0, "the second call has another level, or asks", name);
-    expect(dataurl_force_level(3) == (level == 3), "level 3 can be forced, or not", name);
+    expect(got.level == wanted && asked == 0, "the second call has another level, or asks", name);
+    expect(dataurl_force_level(3) == (wanted == 3), "level 3 can be forced, or not", name);
     expect(dataurl_force_level(2) && !dataurl_force_level(1) && !dataurl_force_level(4), "other levels can be forced", name);
 }
 

@@ -1,5 +1,5 @@
-/* Tests how far a body of base64 is read past its first fault: at most some 4 KiB. The tail has 64 MiB, of which only the first 12 KiB
- * may be read, and the output has room for all of it. */
+/* Tests how far a body of base64 is read past its first fault: at most some 4 KiB. The tail has 64 MiB. Only the first 8 KiB may be read,
+ * and the fault is in the middle of them. The output has room for the whole body. */
 #define _GNU_SOURCE
 #include "data_url.h"
 
@@ -7,7 +7,7 @@
 #include <string.h>
 #include <sys/mman.h>
 
-enum { FAULT = 2000, READABLE = 12 << 10, TAIL = 64 << 20 };
+enum { FAULT = 4000, READABLE = 8 << 10, TAIL = 64 << 20 };
 
 static int wrong;
 
@@ -28,7 +28,10 @@ static void refuses(const char *start, size_t symbols) {
     memset(tail, 'A', READABLE);
     memcpy(tail, start, strlen(start));
     tail[FAULT] = '!';
-    mprotect(tail + READABLE, TAIL - READABLE, PROT_NONE);
+    if (mprotect(tail + READABLE, TAIL - READABLE, PROT_NONE) != 0) {
+        perror("mprotect");
+        wrong++;
+    }
     got = data_url_body_next(&state, tail, TAIL, out, TAIL);
     symbols += FAULT - strlen(start);
     if (got.status != DATA_URL_BASE64_UNEXPECTED_SYMBOL + '!' || got.len != symbols / 4 * 3) {

@@ -173,7 +173,7 @@
  * for x86-64-v2 and for x86-64-v3. The first call asks the processor which of them it can run.
  *
  * OLD PROCESSORS. On a processor that is older than the library needs, a call ends the program with an illegal instruction.
- * These are processors for x86-64 without SSE4.2 or POPCNT, from before 2009. data_url_is_supported runs on them too, and says
+ * These are processors for x86-64 without SSE4.2 or POPCNT: most from before 2009, and some small ones until 2013. data_url_is_supported runs on them too, and says
  * so. Ask it before the first call, where a program may come to such a processor.
  *
  * The functions add two things to calls that are proved: a pointer to no bytes may be null, and a state that is null, or
@@ -368,9 +368,10 @@ struct data_url_body_state {
  * tail, len   the tail: url + opened.tail, opened.tail_len
  * out, room   receives the next bytes; the room may differ from call to call, and must be 8 or more. 4 KiB are fast
  * Returns DATA_URL_MORE; DATA_URL_DONE with the last bytes; a fault of base64, with the bytes before it;
- * DATA_URL_OUTPUT_TOO_SMALL if the room is less than 8; DATA_URL_BAD_STATE if the state is null or one that no call returns
- * for this tail, or the body has ended. With the last two the length is 0, and the state stays as it was. A tail that is not
- * UTF-8 is decoded as the bytes that it is. */
+ * DATA_URL_OUTPUT_TOO_SMALL if the room is less than 8; DATA_URL_BAD_STATE if the state is null, its place is after the tail,
+ * it has left what base64 cannot leave, or the body has ended. With the last two the length is 0, and the state stays as it
+ * was. From another state that no call returned, the tail is decoded from its place on. A tail that is not UTF-8 is decoded as
+ * the bytes that it is. */
 struct data_url_answer data_url_body_next(
     struct data_url_body_state *state, const void *tail, size_t len, void *out, size_t room);
 

@@ -19,7 +19,7 @@
 //!
 //! # Platforms
 //!
-//! Linux on x86-64 with SSE4.2 and POPCNT (any processor since about 2009), and on 64-bit ARM. The library is built for
+//! Linux on x86-64 with SSE4.2 and POPCNT (most processors since 2009), and on 64-bit ARM. The library is built for
 //! these, and linked as it is; no other tool than cargo is needed. On a processor with AVX2 (x86-64-v3) its calls use
 //! that. On one without SSE4.2 or POPCNT the first call panics with a message that says so.
 //!
@@ -36,10 +36,10 @@
 //! Times as fast as the crate, from the shortest texts to long ones; `bindings/README.md` has a table of all rows.
 //!
 //! - [`DataUrl::process`]: 1.6 to 2.5 with a MIME type, 1.06 without a header, 1.07 with `;base64` alone.
-//! - With [`DataUrl::decode_to_vec`]: 1.10 without a header, 1.28 with `;base64` alone, otherwise 1.4 to 33. With
-//!   [`DataUrl::decode`]: 0.99, 1.08, and 1.2 to 25.
+//! - With [`DataUrl::decode_to_vec`]: 1.10 without a header, 1.28 with `;base64` alone, otherwise 1.49 to 33. With
+//!   [`DataUrl::decode`]: 0.99, 1.08, and 1.45 to 25.
 //! - [`mime::Mime`] from a text: 1.11 to 1.38, printed 1.07 to 1.26.
-//! - [`forgiving_base64::decode_to_vec`]: 2.6 to 8.3. A [`forgiving_base64::Decoder`]: 1.73 to 13; 0.52 for 8 symbols,
+//! - [`forgiving_base64::decode_to_vec`]: 2.9 to 8.3. A [`forgiving_base64::Decoder`]: 1.73 to 13; 0.52 for 8 symbols,
 //!   and 0.50 if it is fed ten at a time.
 //! - [`FragmentIdentifier::to_percent_encoded`]: 1.67 to 11, with `process` and `decode`.
 //!
