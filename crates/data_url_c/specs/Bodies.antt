@@ -51,7 +51,7 @@ pub data GoesOn (tail : List ℕ) (old new : DataUrlBody) (before after : List �
       → (status ≡ 0 → IsEnd tail old.from new.from) → (IsGoodBody tail new → ⊥)
       → GoesOn tail old new before after len status
 
--- what a call does: a state that no call returned gives status 12, and an output of less than eight
+-- what a call does: a state that is not good gives status 12, and an output of less than eight
 -- bytes status 5
 pub record StepsBody (tail : List ℕ) (old new : DataUrlBody) (before after : List ℕ)
     (r : DataUrlStep) : Type 0 where

@@ -14,7 +14,8 @@ pub record IsRefused (refusal : Refusal) (old new : List ℕ) (r : DataUrlOpened
   pub no_tail : HasNoTail r
 
 -- the result for a URL: that of its MIME type, and a tail that ends where the C0 controls and spaces at the end begin
-pub record IsOpenedAt (x tail : List ℕ) (mime : DataUrlAnswer) (base64 : Bool) (r : DataUrlOpened) : Type 0 where
+pub record IsOpenedAt (x tail : List ℕ) (mime : DataUrlAnswer) (base64 : Bool)
+    (r : DataUrlOpened) : Type 0 where
   pub answer_is : answer_of r ≡ mime
   pub tail_is : r.tail ≡ length x - suffix_len is_c0_control_or_space x - length tail
   pub len_is : r.tail_len ≡ length tail
