@@ -90,38 +90,6 @@ puts_lower_part text bytes size {old} {mid} {new} {at} {k} {end} u h e f v w =
     subst (λ x. Puts (part x) old at new end) (sym (lower_encoded text u h))
     (puts_part lower size (f ∙ ap (to_le_bytes w64) (sym (length-map text to_ascii_lowercase))) v w')
 
--- the first bytes of a text are written in lower case
-abbrev pub Lowers : List ℕ → ℕ → List ℕ → ℕ → List ℕ → Type 0
-Lowers bytes at old n new = new ≡ take at old ++ (map to_ascii_lowercase (take n bytes) ++ drop (at + n) old)
-
--- one byte more
-pub lowers_next : (bytes old : List ℕ) (at n : ℕ) {new : List ℕ} → at + length bytes ≤ length old → n < length bytes
-    → Lowers bytes at old n new → Lowers bytes at old (n + 1) (set new (at + n) (to_ascii_lowercase (get_or bytes n 0)))
-lowers_next bytes old at n {new} f l h =
-    let done = map to_ascii_lowercase (take n bytes) in
-    let b = to_ascii_lowercase (get_or bytes n 0) in
-    let front = take at old ++ done in
-    let size : length front ≡ at + n =
-    length-append (take at old) done ∙ omega (
-      arith,
-      length-take-le at old (omega (arith, f)),
-      length-map (take n bytes) to_ascii_lowercase,
-      length-take-le n bytes (omega (arith, l)),
-    ) in
-    let rest : drop (at + n) old ≡ get_or old (at + n) 0 ∷ drop (at + n + 1) old = drop_more old (at + n) 0
-    (omega (arith, f, l)) in
-    let new_is : new ≡ front ++ get_or old (at + n) 0 ∷ drop (at + n + 1) old =
-    h ∙ sym (append_assoc (take at old) done (drop (at + n) old)) ∙ ap (λ x. front ++ x) rest in
-    let lower : map to_ascii_lowercase (take (n + 1) bytes) ≡ done ++ (b ∷ []) =
-    ap (map to_ascii_lowercase) (take_more bytes n 0 l)
-    ∙ map-append to_ascii_lowercase (take n bytes) (get_or bytes n 0 ∷ [])
-    in
-    ap₂ (λ x i. set x i b) new_is (sym size)
-    ∙ set-append_seam front (get_or old (at + n) 0) (drop (at + n + 1) old) b
-    ∙ append_assoc (take at old) done (b ∷ drop (at + n + 1) old)
-    ∙ ap (λ x. take at old ++ x) (sym (append_assoc done (b ∷ []) (drop (at + n + 1) old)))
-    ∙ ap₂ (λ x i. take at old ++ (x ++ drop i old)) (sym lower) (omega arith)
-
 -- Values of quoted strings
 
 -- the value of the bytes before the index is written, and the value of the rest follows it
@@ -193,31 +161,6 @@ parts_next (p ∷ pairs) zero l = append-nil (parts_of_pair p)
 parts_next (p ∷ pairs) (suc i) l = ap (λ x. parts_of_pair p ++ x) (parts_next pairs i (omega arith))
     ∙ sym (append_assoc (parts_of_pair p) (flat_map parts_of_pair (take i pairs))
     (parts_of_pair (get_or pairs i ([], []))))
-
--- the length of a part
-pub part_length : (text : List ℕ) → length (part text) ≡ 8 + length text
-unfolding part
-part_length text = omega arith
-
--- the lengths of the parts of one pair more
-pub adds_pair : (pairs : List MimePair) (i at : ℕ) {k k' end : ℕ} (p : MimePair)
-    → Adds (flat_map parts_of_pair (take i pairs)) at k → i < length pairs → get_or pairs i ([], []) ≡ p
-    → Adds (part (encode_utf8_all p.0)) k k' → Adds (part (encode_utf8_all p.1)) k' end
-    → Adds (flat_map parts_of_pair (take (i + 1) pairs)) at end
-adds_pair pairs i at p h l e v w =
-    let one : suc i ≡ i + 1 = omega arith in
-    let done = flat_map parts_of_pair (take i pairs) in
-    let more = ap length (parts_next pairs i l) ∙ length-append done (parts_of_pair (get_or pairs i ([], [])))
-    ∙ ap (λ q. length done + length (parts_of_pair q)) e in
-    omega (
-      arith,
-      h,
-      v,
-      w,
-      more,
-      ap (λ n. length (flat_map parts_of_pair (take n pairs))) one,
-      length-append (part (encode_utf8_all p.0)) (part (encode_utf8_all p.1)),
-    )
 
 -- one pair more
 pub puts_pair : (pairs : List MimePair) (i : ℕ) {old mid mid' new : List ℕ} {at k k' end : ℕ} (p : MimePair)
