@@ -1,7 +1,7 @@
 //! MIME types in parts: each text after its length.
 
 ghost use Rattle.std.specs.Prelude.{◌≡◌, ◌+◌, ◌<◌, IfErr, IfOk, IsTrue, List, encode_utf8_all, false, length, map};
-ghost use Rattle.std.specs.{Char.{to_ascii_lowercase}, List.{flat_map}, Str.{chars}};
+ghost use Rattle.std.specs.{Char.{to_ascii_lowercase}, Int.{to_le_bytes, w64}, List.{flat_map}, Str.{chars}};
 ghost use Rattle.data_url.specs.Mime.{BeginsParameters, IsRecordOfParts, default_record, is_token_text};
 ghost use Rattle.data_url.specs.Parts.{ReadsMimeType, WritesIfFits, part, parts_of, parts_of_pair};
 ghost use Rattle.data_url.specs.{MimeType.{pair_of}, Steps.Parsing.{unescaped}};
@@ -13,6 +13,7 @@ use super::parse::{Head, read_head, read_parameters};
 use super::values::Value;
 use super::{MimeFromStrError, MimeParsingError};
 use std::alloc::{AllocError, Global};
+use std::simd::prelude::*;
 
 /// The most bytes that parts have together.
 const LONGEST: usize = 0x7fff_ffff_ffff_ffff;
@@ -34,12 +35,24 @@ fn put(output: &mut [u8], at: usize, bytes: &[u8]) -> usize
     end
 }
 
+/// Puts a length, as eight bytes, the lowest first.
+#[inline(always)]
+fn put_length(output: &mut [u8], at: usize, len: usize) -> usize
+    ensures { Puts (to_le_bytes w64 len) output.old at output.new result }
+{
+    let end = at.saturating_add(8);
+    if end <= output.len() {
+        u8x8::from_array(len.to_le_bytes()).copy_to_slice(&mut output[at..]);
+    }
+    end
+}
+
 /// Puts a text, as a part.
 #[inline(always)]
 fn put_text(output: &mut [u8], at: usize, text: &str) -> usize
     ensures { Puts (part (encode_utf8_all (chars text.now))) output.old at output.new result }
 {
-    let at = put(output, at, &text.len().to_le_bytes());
+    let at = put_length(output, at, text.len());
     put(output, at, text.as_bytes())
 }
 
@@ -62,7 +75,7 @@ fn put_lowercase(output: &mut [u8], at: usize, text: &str) -> usize
     ensures { Puts (part (encode_utf8_all (map to_ascii_lowercase (chars text.now)))) output.old at
         output.new result }
 {
-    let at = put(output, at, &text.len().to_le_bytes());
+    let at = put_length(output, at, text.len());
     put_lower(output, at, text.as_bytes())
 }
 
@@ -91,7 +104,7 @@ fn put_quoted(output: &mut [u8], at: usize, quoted: &str) -> usize
 {
     let bytes = quoted.as_bytes();
     let len = put_unescaped(&mut [], 0, bytes);
-    let at = put(output, at, &len.to_le_bytes());
+    let at = put_length(output, at, len);
     put_unescaped(output, at, bytes)
 }
 

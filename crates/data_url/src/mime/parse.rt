@@ -113,6 +113,7 @@ pub(super) fn read_parameter(text: &str) -> Parameter<'_>
 }
 
 /// Returns the value after a `=`, and the text after it.
+#[inline(always)]
 fn read_value(text: &str) -> (Value<'_>, &str)
     ensures value { value_of result.0 ≡ quotable_value (given_reading (chars text.now)).value }
     ensures rest { chars result.1.now ≡ (given_reading (chars text.now)).rest }
