@@ -1,6 +1,8 @@
 -- Bytes in ASCII lower case, one by one and in words of four. For `lower.rt`.
-use Rattle.std.proofs.Common.{◌≡◌, ◌+◌, ◌-◌, ◌%◌, ◌<◌, ◌≤◌, ◌++◌, ◌∷◌, ◌∙◌, [], List, ap, ap₂, append_assoc, arith, cond, eqb, eqb-true, true}
-use Rattle.std.proofs.Common.{drop, get_or, length, length-drop, length-take-le, map, map-id, refl, replicate, set, sym, take, take-add, take-take, ℕ}
+use Rattle.std.proofs.Common.{◌≡◌, ◌+◌, ◌-◌, ◌%◌, ◌<◌, ◌≤◌, ◌++◌, ◌∷◌, ◌∙◌, [], List, ap, ap₂, append_assoc, arith}
+use Rattle.std.proofs.Common.{cond, eqb, eqb-true, true}
+use Rattle.std.proofs.Common.{drop, get_or, length, length-drop, length-take-le, map, map-id, refl, replicate, set}
+use Rattle.std.proofs.Common.{sym, take, take-add, take-take, ℕ}
 use Rattle.std.proofs.Common.{Fits, w8}
 use Rattle.std.proofs.lemmas.{List.{drop_more, length-map, map-append, take-map, take_more}}
 use Rattle.std.proofs.lemmas.Simd.{length-put_chunk, splat_is_map, take_more_put_chunk, tops_compared, zip2_of_maps}
@@ -50,9 +52,9 @@ lowers_word bytes n from {output} {word} h l m e =
       same = length-put_chunk from output word ∙ h.same;
       within = m;
       front = take_more_put_chunk from output word (from + 4) (omega (arith, size)) (omega (arith, m, h.same))
-      ∙ ap₂ (λ x y. x ++ y) before e
-      ∙ sym (map-append to_ascii_lowercase (take from bytes) (take 4 (drop from bytes)))
-      ∙ ap (map to_ascii_lowercase) (sym (take-add from 4 bytes));
+          ∙ ap₂ (λ x y. x ++ y) before e
+          ∙ sym (map-append to_ascii_lowercase (take from bytes) (take 4 (drop from bytes)))
+          ∙ ap (map to_ascii_lowercase) (sym (take-add from 4 bytes));
     }
 
 -- the lower case of a byte, as lanes compute it
@@ -71,8 +73,8 @@ word_lower v long fits =
     let splat = λ (n : ℕ). splat_is_map {Y = ℕ} v 4 n long in
     let sub : ℕ → ℕ → ℕ = λ a b. (a + (256 - b)) % 256 in
     let shifted = zip2_of_maps sub (λ x. x) (λ _. 65) v (sym (map-id v)) (splat 65) in
-    let upper = tops_compared w8 ltb _ (replicate 4 26) ∙ zip2_of_maps ltb (λ x. sub x 65) (λ _. 26) v shifted (splat 26)
-    in
+    let upper = tops_compared w8 ltb _ (replicate 4 26)
+    ∙ zip2_of_maps ltb (λ x. sub x 65) (λ _. 26) v shifted (splat 26) in
     let more = chosen (λ x. ltb (sub x 65) 26) (λ _. 32) (λ _. 0) v upper (splat 32) (splat 0) in
     joined (λ a b. (a + b) % 256) (λ x. x) (λ x. cond (ltb (sub x 65) 26) 32 0) v (sym (map-id v)) more
     ∙ map_agree lowered to_ascii_lowercase lowered_is v fits

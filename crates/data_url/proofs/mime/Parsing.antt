@@ -1,7 +1,8 @@
 -- What the parser cuts: values of parameters, type, subtype and parameters. For `parse.rt`, `values.rt`, `cuts.rt`.
 use Rattle.std.proofs.Common.{length, take, drop, encode_utf8_all, refl, sym, ap, ◌∙◌, arith, take-append-drop}
 use Rattle.std.proofs.Common.{length-take-le, codes, subst, take-take, length-take, ◌≡◌, ℕ, zero, suc, ◌+◌, ◌-◌, ◌<◌}
-use Rattle.std.proofs.Common.{get_or, ◌≢◌, ◌==◌, Bool, true, false, not, List, [], ◌∷◌, ◌++◌, ◌≤◌, ◌||◌, ◌⊎◌, None, Some, cond}
+use Rattle.std.proofs.Common.{get_or, ◌≢◌, ◌==◌, Bool, true, false, not, List, [], ◌∷◌, ◌++◌, ◌≤◌, ◌||◌, ◌⊎◌, None}
+use Rattle.std.proofs.Common.{Some, cond}
 use Rattle.std.proofs.{Common.{nat_le, encode_utf8, map, Option, eqb-true}, Math.Seq.{take-length}}
 use Rattle.std.proofs.lemmas.{List.{drop_more, take_rest, Folds.{list_all-append}}, Bool.{agree_below_at, false≢true}}
 use Rattle.std.proofs.lemmas.List.Sums.{prefix_len-le-length, prefix_len_passes, suffix_len-le-length}
@@ -14,7 +15,7 @@ use Rattle.data_url.specs.Steps.Parsing.{item_in, named, pair_if, reading, readi
 use Rattle.data_url.specs.Steps.Parsing.{unescaped, HasNoHead, IsTokens, after_char, in_name}
 use Rattle.data_url.proofs.{examples.Literals.{on_literals}, texts.CodePoints.{same_empty, trimmed_end_is, IsCutInto}}
 use Rattle.data_url.proofs.{texts.CodePoints.{IsSteady, cut_front, front_further, front_passes}, mime.Items.{has_parts}}
-use Rattle.data_url.proofs.{mime.{Items.{trimmed_of}, TokenTexts.{values_steady, whole_front}}, runs.Runs.{match_map}}
+use Rattle.data_url.proofs.{mime.{Items.{trimmed_of}, TokenTexts.{values_steady, whole_front}}}
 use Rattle.data_url.proofs.mime.TokenTexts.{all_from_every, spaces_end, spaces_steady, tokens}
 use lib.Utf8.{encode}
 
@@ -134,8 +135,11 @@ pub ruleset plain_values = (cut_plain, no_value, some_value)
 pub first_char : (bs : List ℕ) (c : ℕ) → IsUtf8 bs → c < 128 → 0 < length bs → get_or bs 0 0 ≡ c
     → after_char c (chars bs) ≡ Some (chars (drop 1 bs))
 first_char bs c u l n e =
-    grind (arith, chars_past_char bs (drop 1 bs) c u (drop_more bs 0 0 n ∙ ap (λ x. x ∷ drop 1 bs) e
-    ∙ ap (λ x. x ++ drop 1 bs) (sym (encode_ascii c l))))
+    grind (
+      arith,
+      chars_past_char bs (drop 1 bs) c u (drop_more bs 0 0 n ∙ ap (λ x. x ∷ drop 1 bs) e
+          ∙ ap (λ x. x ++ drop 1 bs) (sym (encode_ascii c l))),
+    )
 
 -- if an encoded text is empty or begins with another byte, the text does not begin with it
 no_first : (cs bs : List ℕ) (c : ℕ) → encode_utf8_all cs ≡ bs → c < 128 → (length bs ≡ 0) ⊎ (get_or bs 0 0 ≢ c)

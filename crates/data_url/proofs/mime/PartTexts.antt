@@ -1,9 +1,9 @@
 -- Parts that are written, one after another. For `in_parts.rt`.
 use Rattle.std.proofs.Common.{◌≡◌, ◌+◌, ◌^◌, ◌≤◌, ◌<◌, ◌==◌, ◌&&◌, ◌++◌, ◌∷◌, [], Bool, List, ap, arith, drop}
-use Rattle.std.proofs.Common.{Err, Ok, Result, inr, if◌then◌else◌, false, get_or, length, set, length-append}
+use Rattle.std.proofs.Common.{Err, Ok, Result, inr, if◌then◌else◌, false, get_or, length, length-append}
 use Rattle.std.proofs.Common.{length-drop, length-take, map, not, refl, sym, take, true, ◌∙◌, ℕ, ap₂, append_assoc}
 use Rattle.std.proofs.Common.{append-nil, drop-drop, encode_utf8_all, suc, zero, subst, codes}
-use Rattle.std.proofs.lemmas.List.{drop_all, drop_more, length-map, map-append, take_more}
+use Rattle.std.proofs.lemmas.List.{drop_all, drop_more, length-map}
 use Rattle.std.proofs.lemmas.Simd.{put_chunk_is}
 use Rattle.std.proofs.lemmas.Slice.{drop-append-drop}
 use Rattle.std.proofs.lemmas.Str.{encodes-chars, encodes-IsAscii}

@@ -1,4 +1,4 @@
-use Rattle.std.proofs.Common.{arith, inl, rules, inr, sym, ◌∙◌, subst}
+use Rattle.std.proofs.Common.{arith, inl, inr}
 use Rattle.std.proofs.lemmas.Str.{IsCharBoundary-after_ascii}
 use Rattle.data_url.proofs.mime.Parsing.{first_char, no_first_char}
 use Rattle.data_url.proofs.mime.cuts.after_char.Goals.{then-is_empty-via-then-is_empty}
@@ -16,4 +16,5 @@ range_from-requires c =
     search (IsCharBoundary-after_ascii c.args.text.now 0 c.utf8.text (grind arith) (grind arith))
 
 pub returns : goal.returns
-returns c = rw c.range_from.ensures.value (first_char c.args.text.now c.args.c c.utf8.text c.requires (grind arith) (grind arith))
+returns c =
+    rw c.range_from.ensures.value (first_char c.args.text.now c.args.c c.utf8.text c.requires (grind arith) (grind arith))
