@@ -17,4 +17,5 @@ range_from-requires c =
 
 pub returns : goal.returns
 returns c =
-    rw c.range_from.ensures.value (first_char c.args.text.now c.args.c c.utf8.text c.requires (grind arith) (grind arith))
+    rw c.range_from.ensures.value
+    (first_char c.args.text.now c.args.c c.utf8.text c.requires (grind arith) (grind arith))
