@@ -1,9 +1,9 @@
 use Rattle.std.proofs.Common.{Err, Ok, arith, refl}
 use Rattle.data_url.specs.Parts.{parts_of}
 use Rattle.data_url_c.specs.Gives.{GivesTypeInParts}
-use Rattle.data_url_c.specs.declared.refusal.Refusal.TheVariants.{NotAMimeType, OutOfMemory}
+use Rattle.data_url_c.specs.declared.answer.Refusal.TheVariants.{NotAMimeType, OutOfMemory}
 use Rattle.data_url_c.proofs.GivenLemmas.{answers, vec_of}
-use Rattle.data_url_c.proofs.texts.type_in_parts.Goals as goal
+use Rattle.data_url_c.proofs.mime.type_in_parts.Goals as goal
 
 pub returns-in-Ok : goal.returns-in-Ok
 returns-in-Ok c =

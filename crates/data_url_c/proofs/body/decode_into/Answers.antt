@@ -1,10 +1,10 @@
 use Rattle.std.proofs.Common.{Err, rules, ◌≡◌}
 use Rattle.data_url.specs.DataUrl.{url_body}
 use Rattle.data_url.specs.declared.forgiving_base64.DecodeError.TheVariants.{InvalidBase64}
-use Rattle.data_url_c.specs.contracts.whole.fn.decode_into.write as closure
+use Rattle.data_url_c.specs.contracts.body.fn.decode_into.write as closure
 use Rattle.data_url_c.proofs.OutputLemmas.{gets_keep, gets_reaches}
 use Rattle.data_url_c.proofs.WholeLemmas.{body_fits, ends_bad, ends_good}
-use Rattle.data_url_c.proofs.whole.decode_into.Goals as goal
+use Rattle.data_url_c.proofs.body.decode_into.Goals as goal
 
 pub returns-in-Ok : goal.returns-in-Ok
 returns-in-Ok c =

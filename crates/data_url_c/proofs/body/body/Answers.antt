@@ -2,7 +2,7 @@ use Rattle.std.proofs.Common.{Err, arith}
 use Rattle.data_url_c.specs.Gives.{GivesBody}
 use Rattle.data_url_c.proofs.GivenLemmas.{answers, body_refused}
 use Rattle.data_url_c.proofs.WholeLemmas.{answers_into}
-use Rattle.data_url_c.proofs.whole.body.Goals as goal
+use Rattle.data_url_c.proofs.body.body.Goals as goal
 
 pub returns-in-Err : goal.returns-in-Err
 returns-in-Err c =

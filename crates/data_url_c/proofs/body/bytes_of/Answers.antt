@@ -1,8 +1,8 @@
 use Rattle.std.proofs.Common.{Err, rules, ◌≡◌}
 use Rattle.data_url.specs.declared.forgiving_base64.DecodeError.TheVariants.{InvalidBase64}
 use Rattle.data_url.proofs.api.{body_ends, body_keeps}
-use Rattle.data_url_c.specs.contracts.texts.fn.bytes_of.decode_body as closure
-use Rattle.data_url_c.proofs.texts.bytes_of.Goals as goal
+use Rattle.data_url_c.specs.contracts.body.fn.bytes_of.decode_body as closure
+use Rattle.data_url_c.proofs.body.bytes_of.Goals as goal
 
 pub returns-in-Ok : goal.returns-in-Ok
 returns-in-Ok c =

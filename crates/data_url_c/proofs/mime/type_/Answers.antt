@@ -1,6 +1,6 @@
 use Rattle.data_url.specs.MimeType.{record_of}
 use Rattle.data_url_c.proofs.GivenLemmas.{gives_type, no_record, some_record}
-use Rattle.data_url_c.proofs.texts.type_.Goals as goal
+use Rattle.data_url_c.proofs.mime.type_.Goals as goal
 
 pub returns-in-Ok : goal.returns-in-Ok
 returns-in-Ok c = gives_type {mime = record_of c.in-Ok.mime} c.in-Some.ensures.0 c.in-Some.ensures.1

@@ -3,7 +3,7 @@ use Rattle.std.specs.Fn.{CalledAt}
 use denote.Param.Always.{always_mut, mut_by, mut_next}
 use Rattle.data_url.proofs.api.{body_keeps}
 use Rattle.data_url_c.proofs.WholeLemmas.{passes_body}
-use Rattle.data_url_c.proofs.whole.call_with_body.Goals as goal
+use Rattle.data_url_c.proofs.body.call_with_body.Goals as goal
 
 pub decode_body-requires : goal.decode_body-requires
 decode_body-requires g c = mut_by _ (λ y. always_mut g.F.FnMut y.0.now) (λ s a i. search (rules, i))
