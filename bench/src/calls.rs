@@ -1,5 +1,5 @@
-// The calls of a crate with the names of `data-url`, in the form of the library's exports. It is included where `library` names
-// that crate.
+// The calls of a crate with the names of `data-url`, in the form of the library's exports. It is included where
+// `library` names that crate.
 
 use self::library::forgiving_base64::{decode_to_vec as base64, Decoder};
 use self::library::mime::Mime;

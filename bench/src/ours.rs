@@ -1,7 +1,8 @@
-// The calls of a library of this repository, as `data_url_bench` exports them. It is included where `symbol!` makes the name
-// of a symbol from that of an export.
+// The calls of a library of this repository, as `data_url_bench` exports them. It is included where `symbol!` makes
+// the name of a symbol from that of an export.
 
-/// A slice as the library takes it: a pointer and a length. `Global`, the first parameter of most exports, takes no bytes.
+/// A slice as the library takes it: a pointer and a length. `Global`, the first parameter of most exports, takes no
+/// bytes.
 macro_rules! exports {
     ($($name:ident = $export:ident;)*) => {
         extern "C" {

@@ -1,5 +1,5 @@
-/* The allocator that the proved calls use, over the C library's. A request for 0 bytes is one for `align` bytes, so that no
- * pointer is null; after a failure the pointer is to a byte that nobody uses. */
+/* The allocator that the proved calls use, over the C library's. A request for 0 bytes is one for `align` bytes, so
+ * that no pointer is null; after a failure the pointer is to a byte that nobody uses. */
 #include <stddef.h>
 
 void *malloc(size_t size);

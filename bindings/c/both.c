@@ -1,4 +1,5 @@
-/* Calls two libraries that were made with the kit, in one program. The second has `other_` before the names of its calls. */
+/* Calls two libraries that were made with the kit, in one program. The second has `other_` before the names of its
+ * calls. */
 #include "data_url.h"
 #include <stdio.h>
 #include <string.h>

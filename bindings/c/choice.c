@@ -1,5 +1,5 @@
-/* Tests how the library for x86-64 chooses its level, choose.c and processor.h, on a made-up processor and over calls of both levels
- * that only note how they were called. So it runs on any processor. */
+/* Tests how the library for x86-64 chooses its level, choose.c and processor.h, on a made-up processor and over calls
+ * of both levels that only note how they were called. So it runs on any processor. */
 #include "data_url.h"
 #include <stdio.h>
 #include <string.h>
@@ -60,7 +60,8 @@ static struct {
     size_t len, room;
 } got;
 
-static void note(int level, const char *name, const void *state, const void *text, size_t len, const void *out, size_t room) {
+static void note(
+    int level, const char *name, const void *state, const void *text, size_t len, const void *out, size_t room) {
     got.level = level, got.name = name, got.state = state;
     got.text = text, got.len = len, got.out = out, got.room = room;
 }
@@ -110,7 +111,8 @@ static void expect_call(int level, const char *name, const void *state, bool has
     expect(got.level == level, "the call is of the other level", name);
     expect(got.name && strcmp(got.name, name) == 0, "another call was called", name);
     expect(got.state == state, "the state is another one", name);
-    expect(got.text == (has_text ? text : NULL) && got.len == (has_text ? sizeof text : 0), "the text is another one", name);
+    expect(got.text == (has_text ? text : NULL) && got.len == (has_text ? sizeof text : 0), "the text is another one",
+        name);
     expect(got.out == out && got.room == sizeof out, "the output is another one", name);
     memset(&got, 0, sizeof got);
 }
@@ -159,7 +161,8 @@ static void expect_level(struct made_up processor, int wanted, const char *name)
     dataurl_body(text, sizeof text, out, sizeof out);
     expect(got.level == wanted && asked == 0, "the second call has another level, or asks", name);
     expect(dataurl_force_level(3) == (wanted == 3), "level 3 can be forced, or not", name);
-    expect(dataurl_force_level(2) && !dataurl_force_level(1) && !dataurl_force_level(4), "other levels can be forced", name);
+    expect(dataurl_force_level(2) && !dataurl_force_level(1) && !dataurl_force_level(4), "other levels can be forced",
+        name);
 }
 
 int main(void) {

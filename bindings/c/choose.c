@@ -1,16 +1,17 @@
-/* The exports of the archive for x86-64. It has each of them twice: built for x86-64-v2, with v2_ before its name, and for
- * x86-64-v3, with v3_. The functions here call the one that the processor has the instructions for. bindings/build fails if
- * an export is missing here. */
+/* The exports of the archive for x86-64. It has each of them twice: built for x86-64-v2, with v2_ before its name,
+ * and for x86-64-v3, with v3_. The functions here call the one that the processor has the instructions for.
+ * bindings/build fails if an export is missing here. */
 #include "data_url.h"
 #include "processor.h"
 
 typedef const uint8_t *bytes;
 
-/* The level, 2 or 3; 0 before the first call. All threads find the same level, so it does not matter which one writes it. */
+/* The level, 2 or 3; 0 before the first call. All threads find the same level, so it does not matter which one writes
+ * it. */
 static int level;
 
-/* For tests. Later calls use this level, 2 or 3, or for 0 that of the processor. If the processor does not have it, nothing
- * changes and the answer is false. */
+/* For tests. Later calls use this level, 2 or 3, or for 0 that of the processor. If the processor does not have it,
+ * nothing changes and the answer is false. */
 bool dataurl_force_level(int wanted) {
     if (wanted != 0 && wanted != 2 && !(wanted == 3 && has_v3())) return false;
     __atomic_store_n(&level, wanted, __ATOMIC_RELAXED);
@@ -47,7 +48,8 @@ static bool is_v3(void) {
     FORWARD(result, name, (bytes text, size_t len, uint8_t *out, size_t room), (text, len, out, room))
 
 #define FORWARD_PART(result, name, state) \
-    FORWARD(result, name, (struct state *at, bytes text, size_t len, uint8_t *out, size_t room), (at, text, len, out, room))
+    FORWARD( \
+        result, name, (struct state *at, bytes text, size_t len, uint8_t *out, size_t room), (at, text, len, out, room))
 
 FORWARD_TEXT(struct data_url_answer, dataurl_body)
 FORWARD_TEXT(struct data_url_answer, dataurl_mime)

@@ -1,6 +1,6 @@
-/* The functions of data_url.h over the proved calls, whose pointers may not be null: a pointer to no bytes is replaced by
- * one that is not null. A state that is null is replaced by one that the calls refuse, and so is one of a body whose flag is
- * neither 0 nor 1, which the proved call takes as 1. Nothing else happens here. */
+/* The functions of data_url.h over the proved calls, whose pointers may not be null: a pointer to no bytes is
+ * replaced by one that is not null. A state that is null is replaced by one that the calls refuse, and so is one of a
+ * body whose flag is neither 0 nor 1, which the proved call takes as 1. Nothing else happens here. */
 #include "data_url.h"
 
 typedef const uint8_t *bytes;
@@ -25,7 +25,8 @@ static bytes text(const void *text, size_t len) { return len == 0 ? &nothing : (
 
 static uint8_t *output(void *out, size_t room) { return room == 0 ? &nothing : (uint8_t *)out; }
 
-/* States with more symbols left over than three, which no call returned. A call that refuses a state writes nothing to it. */
+/* States with more symbols left over than three, which no call returned. A call that refuses a state writes nothing
+ * to it. */
 static const struct data_url_body_state bad_body = {0, {0, 0, 0}, 255, 0, 0};
 static const struct data_url_base64_state bad_base64 = {{0, 0, 0}, 255, 0};
 

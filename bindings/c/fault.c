@@ -1,5 +1,5 @@
-/* Tests how far a body of base64 is read past its first fault: at most some 4 KiB. The tail has 64 MiB. Only the first 8 KiB may be read,
- * and the fault is in the middle of them. The output has room for the whole body. */
+/* Tests how far a body of base64 is read past its first fault: at most some 4 KiB. The tail has 64 MiB. Only the
+ * first 8 KiB may be read, and the fault is in the middle of them. The output has room for the whole body. */
 #define _GNU_SOURCE
 #include "data_url.h"
 

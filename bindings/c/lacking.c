@@ -1,5 +1,6 @@
-/* Tests how the library for x86-64 chooses its level on a processor that lacks one feature of x86-64-v3. The processor is told to
- * fault at each cpuid, and the handler answers without that feature. The status is 77 if it has no such faults. */
+/* Tests how the library for x86-64 chooses its level on a processor that lacks one feature of x86-64-v3. The
+ * processor is told to fault at each cpuid, and the handler answers without that feature. The status is 77 if it has
+ * no such faults. */
 #define _GNU_SOURCE
 #include "data_url.h"
 #include <cpuid.h>
@@ -14,7 +15,8 @@
 
 bool dataurl_force_level(int level);
 
-/* A feature: the word that cpuid answers for a leaf, and a bit of it. FMA, MOVBE, OSXSAVE, AVX, F16C; BMI1, AVX2, BMI2; LZCNT. */
+/* A feature: the word that cpuid answers for a leaf, and a bit of it. FMA, MOVBE, OSXSAVE, AVX, F16C; BMI1, AVX2,
+ * BMI2; LZCNT. */
 struct feature {
     unsigned leaf;
     int word;

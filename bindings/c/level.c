@@ -1,5 +1,5 @@
-/* Linked with a test of the library for x86-64: before main, makes it use the level that the variable DATA_URL_LEVEL names, 2 or
- * 3. If the processor does not have that level, the status is 77. */
+/* Linked with a test of the library for x86-64: before main, makes it use the level that the variable DATA_URL_LEVEL
+ * names, 2 or 3. If the processor does not have that level, the status is 77. */
 #include <stdbool.h>
 #include <stdlib.h>
 

@@ -1,5 +1,5 @@
-/* What a processor of the architecture x86-64 can do. It needs <stdbool.h> and <stdint.h>. A test that defines PROCESSOR_IS_MADE_UP
- * answers the two instructions itself. */
+/* What a processor of the architecture x86-64 can do. It needs <stdbool.h> and <stdint.h>. A test that defines
+ * PROCESSOR_IS_MADE_UP answers the two instructions itself. */
 #ifndef DATA_URL_PROCESSOR_H
 #define DATA_URL_PROCESSOR_H
 

@@ -1,6 +1,7 @@
-/* Tests of the calls that decode in parts. The vectors, as vectors.py prints them, come on standard input: each body by rooms of
- * every small size, each text of base64 in every two pieces. Then 100,000 random texts in random pieces, against the calls for
- * whole texts, and 1,000 states that no call made. Build it with -Wl,--wrap=malloc,--wrap=realloc. */
+/* Tests of the calls that decode in parts. The vectors, as vectors.py prints them, come on standard input: each body
+ * by rooms of every small size, each text of base64 in every two pieces. Then 100,000 random texts in random pieces,
+ * against the calls for whole texts, and 1,000 states that no call made. Build it with
+ * -Wl,--wrap=malloc,--wrap=realloc. */
 #include "data_url.h"
 
 #include <stdio.h>
@@ -116,7 +117,8 @@ static void feed_parts(const uint8_t *text, size_t len, size_t cut, size_t size)
 }
 
 static void is_whole(const char *what, const uint8_t *text, size_t len) {
-    int is_same = parts.status == whole.status && parts.len == whole.len && memcmp(parts.bytes, whole.bytes, whole.len) == 0;
+    int is_same =
+        parts.status == whole.status && parts.len == whole.len && memcmp(parts.bytes, whole.bytes, whole.len) == 0;
     check(is_same, what, text, len);
 }
 
@@ -202,7 +204,8 @@ static size_t random_text(const char *const *units, size_t count, uint8_t *text,
 
 /* A random URL and a random text of base64, whole and in parts. */
 static void random_texts(void) {
-    static const char *const body[] = {"a", "%", "%4", "1", "%41", "\t", "\n", "#", "\xc3\xa9", "%\t4\n1", "Q", "=", " ", "JD", "%3d"};
+    static const char *const body[] = {
+        "a", "%", "%4", "1", "%41", "\t", "\n", "#", "\xc3\xa9", "%\t4\n1", "Q", "=", " ", "JD", "%3d"};
     static const char *const symbols[] = {"Q", "U", "J", "D", "\n", " ", "QUJD", "QUJDQUJDQUJDQUJD", "=", "!"};
     static uint8_t text[1024];
     size_t head = below(2) ? sprintf((char *)text, "data:,") : sprintf((char *)text, "data:;base64,");

@@ -1,5 +1,5 @@
-/* Whether the processor can run the calls. It is built for every processor of the architecture, and so runs where they do not.
- * NEEDS_V3 is defined for a library that has the calls for x86-64-v3 alone. */
+/* Whether the processor can run the calls. It is built for every processor of the architecture, and so runs where
+ * they do not. NEEDS_V3 is defined for a library that has the calls for x86-64-v3 alone. */
 #include "data_url.h"
 
 #if !defined __x86_64__

@@ -56,7 +56,8 @@ static int is(struct data_url_answer answer, uint32_t status, size_t len) {
 }
 
 /* One call with an output of this size: the whole answer, or an output that is too small and unchanged. */
-static void try_room(Call call, const void *text, size_t len, size_t room, uint32_t status, const void *want, size_t want_len) {
+static void try_room(
+    Call call, const void *text, size_t len, size_t room, uint32_t status, const void *want, size_t want_len) {
     uint8_t *out = filled_room(room);
     struct data_url_answer answer = call(text, len, room ? out : NULL, room);
     if (room < want_len) {
@@ -135,8 +136,11 @@ static void faults(void) {
     gives(data_url_fragment, "data:;base64,QUJD!#x", DATA_URL_BASE64_UNEXPECTED_SYMBOL + '!', "");
     gives(data_url_mime, "data:;base64,QUJD!#x", DATA_URL_DONE, "text/plain;charset=US-ASCII");
     gives(data_url_body, "data:;base64,QUJDQ", DATA_URL_BASE64_LONE_SYMBOL, "ABC");
-    check(data_url_is_base64_fault(DATA_URL_BASE64_PADDING) && !data_url_is_base64_fault(DATA_URL_NO_FRAGMENT), "faults", "");
-    check(data_url_is_unexpected_symbol(DATA_URL_BASE64_UNEXPECTED_SYMBOL) && !data_url_is_unexpected_symbol(DATA_URL_BASE64_SYMBOL_AFTER_PADDING), "symbols", "");
+    check(data_url_is_base64_fault(DATA_URL_BASE64_PADDING) && !data_url_is_base64_fault(DATA_URL_NO_FRAGMENT),
+        "faults", "");
+    check(data_url_is_unexpected_symbol(DATA_URL_BASE64_UNEXPECTED_SYMBOL) &&
+              !data_url_is_unexpected_symbol(DATA_URL_BASE64_SYMBOL_AFTER_PADDING),
+        "symbols", "");
     check(data_url_unexpected_symbol(DATA_URL_BASE64_UNEXPECTED_SYMBOL + 0xff) == 0xff, "the symbol", "");
 }
 
@@ -228,7 +232,8 @@ static uint8_t *repeated(const char *head, const char *unit, size_t times, const
 }
 
 /* The answer is one unit, repeated `times` times. */
-static void gives_repeated(Call call, const char *head, const char *unit, const char *end, uint32_t status, const char *want, size_t times) {
+static void gives_repeated(
+    Call call, const char *head, const char *unit, const char *end, uint32_t status, const char *want, size_t times) {
     size_t len, want_len;
     uint8_t *text = repeated(head, unit, times, end, &len);
     uint8_t *wanted = repeated("", want, times, "", &want_len);
@@ -244,7 +249,8 @@ static void long_bodies(void) {
     gives_repeated(data_url_body, "data:,", "%2C", "#f", DATA_URL_DONE, ",", mebibyte);
     gives_repeated(data_url_body, "data:,", "%", "", DATA_URL_DONE, "%", mebibyte);
     gives_repeated(data_url_body, "data:;base64,", "QUJD", "", DATA_URL_DONE, "ABC", mebibyte / 3);
-    gives_repeated(data_url_body, "data:;base64,", "QUJD", "!", DATA_URL_BASE64_UNEXPECTED_SYMBOL + '!', "ABC", mebibyte / 3);
+    gives_repeated(
+        data_url_body, "data:;base64,", "QUJD", "!", DATA_URL_BASE64_UNEXPECTED_SYMBOL + '!', "ABC", mebibyte / 3);
     gives_repeated(data_url_fragment, "data:,#", "`", "", DATA_URL_DONE, "%60", mebibyte / 3);
     gives_repeated(data_url_base64, "", "Q U J\nD", "", DATA_URL_DONE, "ABC", mebibyte / 3);
 }
@@ -687,7 +693,8 @@ static void refuses_body(struct data_url_body_state *state, const char *what) {
         uint8_t *out = filled_room(room);
         check(is(data_url_body_next(state, "QUJD", 4, out, room), DATA_URL_BAD_STATE, 0), "bad state", what);
         check(is_filled(out, room + 1), "output", what);
-        check(!state || memcmp(&before, state, offsetof(struct data_url_body_state, is_base64) + 1) == 0, "bad state is changed", what);
+        check(!state || memcmp(&before, state, offsetof(struct data_url_body_state, is_base64) + 1) == 0,
+            "bad state is changed", what);
         free(out);
     }
 }
@@ -754,7 +761,8 @@ static void whole_text_in(size_t room, Call call, const char *text, const char *
 static void opened_in(size_t room) {
     uint8_t *out = exact_room(room);
     struct data_url_opened opened = data_url_open("data:a/b;base64,x", 17, out, room);
-    check(opened.status == (room < 3 ? DATA_URL_OUTPUT_TOO_SMALL : DATA_URL_DONE) && opened.len == 3, "small room", "open");
+    check(opened.status == (room < 3 ? DATA_URL_OUTPUT_TOO_SMALL : DATA_URL_DONE) && opened.len == 3, "small room",
+        "open");
     check(opened.tail == 16 && opened.tail_len == 1 && opened.is_base64, "fields with a small room", "open");
     check(room < 3 || memcmp(out, "a/b", 3) == 0, "bytes in a small room", "open");
     free(out);
@@ -779,7 +787,8 @@ static void base64_part_in(size_t room) {
     if (room < 4) {
         check(fed.status == DATA_URL_OUTPUT_TOO_SMALL && fed.len == 0 && fed.read == 0, "small room", "base64_feed");
     } else {
-        check(fed.status == DATA_URL_DONE && fed.read > 0 && begins(out, fed.len, room, "ABCDEFGHI"), "room", "base64_feed");
+        check(fed.status == DATA_URL_DONE && fed.read > 0 && begins(out, fed.len, room, "ABCDEFGHI"), "room",
+            "base64_feed");
     }
     free(out);
 }

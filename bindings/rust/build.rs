@@ -1,8 +1,9 @@
-//! Links `libdata_url.a`: that of the folder that `DATA_URL_LIB` names or, without it, that of `prebuilt/TARGET` in this package.
+//! Links `libdata_url.a`: that of the folder that `DATA_URL_LIB` names or, without it, that of `prebuilt/TARGET` in
+//! this package.
 //!
-//! In a checkout, the script `../archive` says which library is taken, as for the tests in C: that of `../out/TARGET`, where
-//! `../build` puts one, and otherwise that of `prebuilt`. It refuses one that was not built from the sources as they are. If there
-//! is none in either folder, it is built, which needs the Rattle kit.
+//! In a checkout, the script `../archive` says which library is taken, as for the tests in C: that of
+//! `../out/TARGET`, where `../build` puts one, and otherwise that of `prebuilt`. It refuses one that was not built
+//! from the sources as they are. If there is none in either folder, it is built, which needs the Rattle kit.
 
 use std::env;
 use std::fs::read;
@@ -65,9 +66,9 @@ fn build(bindings: &Path, target: &str) {
     }
 }
 
-/// The folder that `bindings/archive` names for a target. Cargo asks again if a source of the library changes. The status 1 refuses
-/// a library. With any other the script did not run, as where there is no bash: then nothing was built here, and the kept library
-/// is the one.
+/// The folder that `bindings/archive` names for a target. Cargo asks again if a source of the library changes. The
+/// status 1 refuses a library. With any other the script did not run, as where there is no bash: then nothing was
+/// built here, and the kept library is the one.
 fn chosen(bindings: &Path, target: &str, kept: PathBuf) -> PathBuf {
     for source in &SOURCES {
         let path = bindings.join(source);

@@ -30,7 +30,8 @@
  *
  * IN PARTS. A long body goes to a file in a few kilobytes, and nothing is allocated for it:
  *
- *     data_url_open           reads the header of a URL: its MIME type, whether its body is base64, where its tail begins
+ *     data_url_open           reads the header of a URL: its MIME type, whether its body is base64, where its tail
+ *                             begins
  *     data_url_open_parts     the same, with the MIME type in parts: type, subtype, each name and each value
  *     data_url_type_parts     a MIME type, parsed, in such parts
  *     data_url_body_next      the next bytes of a body, from the tail
@@ -129,26 +130,27 @@
  *         return fflush(stdout) == 0 ? 0 : 1;
  *     }
  *
- * TEXTS. A text is `len` bytes at a pointer. It need not end with a NUL, and may contain one. Any bytes are allowed. The
- * pointer may be null if `len` is 0. The text is only read, and only until the call returns.
+ * TEXTS. A text is `len` bytes at a pointer. It need not end with a NUL, and may contain one. Any bytes are allowed.
+ * The pointer may be null if `len` is 0. The text is only read, and only until the call returns.
  *
- * OUTPUTS. An output is room for `room` bytes at a pointer, which may be null if `room` is 0. It must not overlap the text.
- * What it holds before the call is never read. A call writes the first `len` bytes and leaves the rest as it was. With the
- * status DATA_URL_OUTPUT_TOO_SMALL it writes nothing.
+ * OUTPUTS. An output is room for `room` bytes at a pointer, which may be null if `room` is 0. It must not overlap
+ * the text. What it holds before the call is never read. A call writes the first `len` bytes and leaves the rest as
+ * it was. With the status DATA_URL_OUTPUT_TOO_SMALL it writes nothing.
  *
- * STATES. A state is the caller's, and is written by the calls that take it. No other argument of a call may overlap it: not the
- * text, and not the output. It may be null, and then the call returns DATA_URL_BAD_STATE.
+ * STATES. A state is the caller's, and is written by the calls that take it. No other argument of a call may overlap
+ * it: not the text, and not the output. It may be null, and then the call returns DATA_URL_BAD_STATE.
  *
  * NULL. No pointer may be null but these: to a text of no bytes, to an output with no room, and to a state. What
  * data_url_part_next takes may not be null, and its two arguments may not overlap each other or the parts.
  *
- * LENGTHS. `len` of an answer is how many bytes were written, but for one status: with DATA_URL_OUTPUT_TOO_SMALL nothing was
- * written, and `len` is the room that is needed. A second call with that much room succeeds. So a call with no room asks for the
- * length. data_url_body_next and data_url_base64_feed write as much as there is room for: their `len` is always how many bytes
- * were written. A body is never longer than its URL, and decoded base64 never longer than its text.
+ * LENGTHS. `len` of an answer is how many bytes were written, but for one status: with DATA_URL_OUTPUT_TOO_SMALL
+ * nothing was written, and `len` is the room that is needed. A second call with that much room succeeds. So a call
+ * with no room asks for the length. data_url_body_next and data_url_base64_feed write as much as there is room for:
+ * their `len` is always how many bytes were written. A body is never longer than its URL, and decoded base64 never
+ * longer than its text.
  *
- * INVALID BASE64. The bytes before the first fault are written, with the status of the fault. data_url_fragment writes none.
- * data_url_mime, data_url_open and data_url_open_parts do not decode the body and so find no fault in it.
+ * INVALID BASE64. The bytes before the first fault are written, with the status of the fault. data_url_fragment
+ * writes none. data_url_mime, data_url_open and data_url_open_parts do not decode the body and so find no fault in it.
  *
  * MEMORY AND THREADS. The library keeps no pointer, and no state but which instructions the processor has. So calls
  * may run on many threads at once. What a call allocates, with malloc and realloc, it frees before it returns. Do not
@@ -169,15 +171,16 @@
  * less than the length of the tail. The other calls take more for a longer text, for more parameters, and where a
  * value or a fragment is escaped. data_url_base64 and data_url_fragment take one less for an empty result.
  *
- * PLATFORMS. Linux on x86-64 (level x86-64-v2 or higher) and aarch64. C99, C++11 and later. The library for x86-64 has each call
- * for x86-64-v2 and for x86-64-v3. The first call asks the processor which of them it can run.
+ * PLATFORMS. Linux on x86-64 (level x86-64-v2 or higher) and aarch64. C99, C++11 and later. The library for x86-64
+ * has each call for x86-64-v2 and for x86-64-v3. The first call asks the processor which of them it can run.
  *
- * OLD PROCESSORS. On a processor that is older than the library needs, a call ends the program with an illegal instruction.
- * These are processors for x86-64 without SSE4.2 or POPCNT: most from before 2009, and some small ones until 2013. data_url_is_supported runs on them too, and says
- * so. Ask it before the first call, where a program may come to such a processor.
+ * OLD PROCESSORS. On a processor that is older than the library needs, a call ends the program with an illegal
+ * instruction. These are processors for x86-64 without SSE4.2 or POPCNT: most from before 2009, and some small ones
+ * until 2013. data_url_is_supported runs on them too, and says so. Ask it before the first call, where a program may
+ * come to such a processor.
  *
- * The functions add two things to calls that are proved: a pointer to no bytes may be null, and a state that is null, or
- * whose is_base64 is neither 0 nor 1, is DATA_URL_BAD_STATE.
+ * The functions add two things to calls that are proved: a pointer to no bytes may be null, and a state that is
+ * null, or whose is_base64 is neither 0 nor 1, is DATA_URL_BAD_STATE.
  */
 #ifndef DATA_URL_H
 #define DATA_URL_H
@@ -271,11 +274,12 @@ struct data_url_answer data_url_mime(const void *url, size_t len, void *out, siz
  *
  * url, len    the URL
  * out, room   receives the fragment
- * Returns DATA_URL_DONE; DATA_URL_NO_FRAGMENT, _NOT_UTF8, _NOT_A_DATA_URL, _NO_COMMA, _OUT_OF_MEMORY, or a fault of base64,
- * with length 0; DATA_URL_OUTPUT_TOO_SMALL with the length that is needed. */
+ * Returns DATA_URL_DONE; DATA_URL_NO_FRAGMENT, _NOT_UTF8, _NOT_A_DATA_URL, _NO_COMMA, _OUT_OF_MEMORY, or a fault of
+ * base64, with length 0; DATA_URL_OUTPUT_TOO_SMALL with the length that is needed. */
 struct data_url_answer data_url_fragment(const void *url, size_t len, void *out, size_t room);
 
-/* Parses a MIME type and prints it: type, subtype and names in lower case, each name once, values quoted where necessary.
+/* Parses a MIME type and prints it: type, subtype and names in lower case, each name once, values quoted where
+ * necessary.
  *
  * type, len   the MIME type
  * out, room   receives the printed MIME type, in UTF-8
@@ -287,8 +291,8 @@ struct data_url_answer data_url_type(const void *type, size_t len, void *out, si
  *
  * base64, len the text, which may be any bytes
  * out, room   receives the bytes
- * Returns DATA_URL_DONE; DATA_URL_OUT_OF_MEMORY with length 0; DATA_URL_OUTPUT_TOO_SMALL with the length that is needed; a
- * fault of base64, with the bytes before it. */
+ * Returns DATA_URL_DONE; DATA_URL_OUT_OF_MEMORY with length 0; DATA_URL_OUTPUT_TOO_SMALL with the length that is
+ * needed; a fault of base64, with the bytes before it. */
 struct data_url_answer data_url_base64(const void *base64, size_t len, void *out, size_t room);
 
 /* What data_url_open and data_url_open_parts return. */
@@ -299,8 +303,8 @@ struct data_url_opened {
     /* How many bytes the MIME type has, printed or in parts. With DATA_URL_OUTPUT_TOO_SMALL it was not written. 0 if
      * there is no URL. */
     size_t len;
-    /* The tail, which is the text after the comma: where it begins in the URL, and how many bytes it has. They are set with
-     * DATA_URL_DONE and DATA_URL_OUTPUT_TOO_SMALL, and 0 with any other status. */
+    /* The tail, which is the text after the comma: where it begins in the URL, and how many bytes it has. They are
+     * set with DATA_URL_DONE and DATA_URL_OUTPUT_TOO_SMALL, and 0 with any other status. */
     size_t tail;
     size_t tail_len;
 };
@@ -312,8 +316,8 @@ struct data_url_opened {
  * Returns what data_url_mime returns. With DATA_URL_DONE and DATA_URL_OUTPUT_TOO_SMALL the other fields are set too. */
 struct data_url_opened data_url_open(const void *url, size_t len, void *out, size_t room);
 
-/* Reads the header of a data: URL, and writes its MIME type in parts: the type, the subtype, and the name and the value of
- * each parameter. data_url_part_next takes them one by one.
+/* Reads the header of a data: URL, and writes its MIME type in parts: the type, the subtype, and the name and the
+ * value of each parameter. data_url_part_next takes them one by one.
  *
  * url, len    the URL
  * out, room   receives the parts; 256 bytes are enough for nearly all
@@ -333,11 +337,12 @@ struct data_url_part {
     size_t len;
 };
 
-/* Takes the next part from what data_url_open_parts or data_url_type_parts wrote. Each comes after its length, which takes
- * eight bytes, the lowest first.
+/* Takes the next part from what data_url_open_parts or data_url_type_parts wrote. Each comes after its length, which
+ * takes eight bytes, the lowest first.
  *
- * parts, len  the parts that are left, and how many bytes they have together; the part is taken from them. There is a next part
- *             as long as len is not 0. Parts come in pairs: the type and the subtype, then each name and its value. */
+ * parts, len  the parts that are left, and how many bytes they have together; the part is taken from them. There is
+ *             a next part as long as len is not 0. Parts come in pairs: the type and the subtype, then each name and
+ *             its value. */
 static inline struct data_url_part data_url_part_next(const void **parts, size_t *len) {
     const uint8_t *bytes = (const uint8_t *)*parts;
     struct data_url_part part;
@@ -368,10 +373,10 @@ struct data_url_body_state {
  * tail, len   the tail: url + opened.tail, opened.tail_len
  * out, room   receives the next bytes; the room may differ from call to call, and must be 8 or more. 4 KiB are fast
  * Returns DATA_URL_MORE; DATA_URL_DONE with the last bytes; a fault of base64, with the bytes before it;
- * DATA_URL_OUTPUT_TOO_SMALL if the room is less than 8; DATA_URL_BAD_STATE if the state is null, its place is after the tail,
- * it has left what base64 cannot leave, or the body has ended. With the last two the length is 0, and the state stays as it
- * was. From another state that no call returned, the tail is decoded from its place on. A tail that is not UTF-8 is decoded as
- * the bytes that it is. */
+ * DATA_URL_OUTPUT_TOO_SMALL if the room is less than 8; DATA_URL_BAD_STATE if the state is null, its place is after
+ * the tail, it has left what base64 cannot leave, or the body has ended. With the last two the length is 0, and the
+ * state stays as it was. From another state that no call returned, the tail is decoded from its place on. A tail
+ * that is not UTF-8 is decoded as the bytes that it is. */
 struct data_url_answer data_url_body_next(
     struct data_url_body_state *state, const void *tail, size_t len, void *out, size_t room);
 
@@ -390,19 +395,19 @@ struct data_url_fed {
     uint32_t status;
     /* How many bytes were written to the output. 0 with DATA_URL_OUTPUT_TOO_SMALL and DATA_URL_BAD_STATE. */
     size_t len;
-    /* How many bytes of the input were read. 0 with DATA_URL_OUTPUT_TOO_SMALL and DATA_URL_BAD_STATE. After a fault it does not
-     * say where the fault is. */
+    /* How many bytes of the input were read. 0 with DATA_URL_OUTPUT_TOO_SMALL and DATA_URL_BAD_STATE. After a fault
+     * it does not say where the fault is. */
     size_t read;
 };
 
-/* Decodes the next part of a text of base64. All of the input is read if the room is 3 bytes more than its length; otherwise
- * as much as there is room for. Feed the rest, from input + read, next.
+/* Decodes the next part of a text of base64. All of the input is read if the room is 3 bytes more than its length;
+ * otherwise as much as there is room for. Feed the rest, from input + read, next.
  *
  * state       what the text has left
  * input, len  the next part of the text
  * out, room   receives the bytes of the groups of four symbols that are complete; the room must be 4 or more
- * Returns DATA_URL_DONE; a fault of base64, with the bytes before it; DATA_URL_OUTPUT_TOO_SMALL if the room is less than 4;
- * DATA_URL_BAD_STATE. With the last two nothing is written or read, and the state stays as it was. */
+ * Returns DATA_URL_DONE; a fault of base64, with the bytes before it; DATA_URL_OUTPUT_TOO_SMALL if the room is less
+ * than 4; DATA_URL_BAD_STATE. With the last two nothing is written or read, and the state stays as it was. */
 struct data_url_fed data_url_base64_feed(
     struct data_url_base64_state *state, const void *input, size_t len, void *out, size_t room);
 
@@ -410,8 +415,9 @@ struct data_url_fed data_url_base64_feed(
  *
  * state       what the text has left
  * out, room   receives the last bytes, at most 2
- * Returns DATA_URL_DONE; DATA_URL_BASE64_PADDING or DATA_URL_BASE64_LONE_SYMBOL with length 0; DATA_URL_OUTPUT_TOO_SMALL with
- * the length that is needed; DATA_URL_BAD_STATE. With the last two the state stays as it was. */
+ * Returns DATA_URL_DONE; DATA_URL_BASE64_PADDING or DATA_URL_BASE64_LONE_SYMBOL with length 0;
+ * DATA_URL_OUTPUT_TOO_SMALL with the length that is needed; DATA_URL_BAD_STATE. With the last two the state stays as
+ * it was. */
 struct data_url_answer data_url_base64_finish(struct data_url_base64_state *state, void *out, size_t room);
 
 #ifdef __cplusplus

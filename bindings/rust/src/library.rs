@@ -265,8 +265,8 @@ pub(crate) fn mime_type<T>(
     )
 }
 
-/// Gives back room, by one call of the allocator, if it is more than twice the length and more than `SMALL`. A fragment,
-/// escapes, tabs and newlines took it, of which a body has fewer bytes or none.
+/// Gives back room, by one call of the allocator, if it is more than twice the length and more than `SMALL`. A
+/// fragment, escapes, tabs and newlines took it, of which a body has fewer bytes or none.
 #[inline]
 fn give_back(bytes: &mut Vec<u8>) {
     if bytes.capacity() > SMALL && bytes.capacity() / 2 > bytes.len() {

@@ -233,8 +233,8 @@ fn spaced_symbols(state: &mut u32, count: usize, width: usize) -> String {
     text
 }
 
-/// Symbols of rows with white space are packed, up to 256 of them and 15 more, and decoded together. They may end in every row
-/// and at every place of one, with up to three symbols that are left over.
+/// Symbols of rows with white space are packed, up to 256 of them and 15 more, and decoded together. They may end in
+/// every row and at every place of one, with up to three symbols that are left over.
 #[test]
 fn symbols_that_are_packed() {
     let mut state = 20_261_127;
@@ -314,14 +314,16 @@ fn lines_of_base64() {
     }
 }
 
-/// The lines are longer than the 4 KiB whose bytes decide how much room is allocated, and than what the decoder is fed at once.
+/// The lines are longer than the 4 KiB whose bytes decide how much room is allocated, and than what the decoder is
+/// fed at once.
 #[test]
 fn long_lines_of_base64() {
     let text = lines(76, 60);
     (4_080..4_240).for_each(|place| assert_lines_with_parts(&text, place));
 }
 
-/// The decoder is fed 4 KiB at once: text ends before, there and after, and two bytes before each end may be another part.
+/// The decoder is fed 4 KiB at once: text ends before, there and after, and two bytes before each end may be another
+/// part.
 #[test]
 fn clean_text_of_4_kib() {
     for len in 4_090..4_102 {
@@ -331,7 +333,8 @@ fn clean_text_of_4_kib() {
     }
 }
 
-/// A long subtype in lower case, around the lengths from which its parts are in a vector, and from which it is read as any other header.
+/// A long subtype in lower case, around the lengths from which its parts are in a vector, and from which it is read
+/// as any other header.
 #[test]
 fn long_types() {
     for len in 230..265 {
@@ -347,8 +350,8 @@ fn long_types() {
     }
 }
 
-/// A long value of the only parameter, around the lengths from which the parts are in a vector, and from which the header is
-/// read as any other.
+/// A long value of the only parameter, around the lengths from which the parts are in a vector, and from which the
+/// header is read as any other.
 #[test]
 fn long_values() {
     for len in 215..262 {

@@ -126,8 +126,8 @@ fn answer_of(url: &DataUrl) -> Answer {
     }
 }
 
-/// Reads a body with outputs of these lengths, in turn. Asserts that nothing is written after an output, and that a call
-/// after the end says the same again.
+/// Reads a body with outputs of these lengths, in turn. Asserts that nothing is written after an output, and that a
+/// call after the end says the same again.
 fn read_in(url: &DataUrl, mut lens: impl FnMut() -> usize) -> Answer {
     let mut reader = BodyReader::new(url);
     let mut bytes = Vec::new();

@@ -1,5 +1,5 @@
-//! The first call on this processor: it panics if the processor is older than the library needs, and says so. `processors/check`
-//! runs these tests on old processors.
+//! The first call on this processor: it panics if the processor is older than the library needs, and says so.
+//! `processors/check` runs these tests on old processors.
 #![cfg(target_arch = "x86_64")]
 
 use data_url::forgiving_base64::{self, Decoder};

@@ -1,5 +1,5 @@
-//! Tables of texts and their answers, the texts that begin another one, and inputs of every size. The expected answers follow
-//! from the standards.
+//! Tables of texts and their answers, the texts that begin another one, and inputs of every size. The expected
+//! answers follow from the standards.
 
 mod level;
 
@@ -19,8 +19,8 @@ const LONE: &str = "base64 not valid: lone alphabet symbol present";
 const AFTER_PADDING: &str = "base64 not valid: alphabet symbol present after padding";
 const EXCLAMATION: &str = "base64 not valid: symbol with codepoint 33 not expected";
 
-/// Texts, their printed records, the bytes of their bodies before the first fault, and the message of the error, or `#` and
-/// the fragment, or nothing.
+/// Texts, their printed records, the bytes of their bodies before the first fault, and the message of the error, or
+/// `#` and the fragment, or nothing.
 #[rustfmt::skip]
 const URLS: [[&str; 4]; 88] = [
     ["data:,Hello%20World!", DEFAULT, "Hello World!", ""],
@@ -160,8 +160,8 @@ const MIME_TYPES: [[&str; 2]; 42] = [
     ["a/\u{7f}", NO_TYPE],
 ];
 
-/// Texts, the bytes before their first fault, and the message for that fault, which is empty for a valid text. Texts end
-/// after each number of pending symbols, with each number of `=`.
+/// Texts, the bytes before their first fault, and the message for that fault, which is empty for a valid text. Texts
+/// end after each number of pending symbols, with each number of `=`.
 #[rustfmt::skip]
 const BASE64: [[&str; 3]; 37] = [
     ["", "", ""],
@@ -234,7 +234,8 @@ fn assert_url(row: [&str; 4]) {
     assert_eq!(record.parse().ok().as_ref(), Some(url.mime_type()));
 }
 
-/// Asserts how a text's record is printed, and that the printed text gives the same record, or the message of its error.
+/// Asserts how a text's record is printed, and that the printed text gives the same record, or the message of its
+/// error.
 fn assert_mime(text: &str, wanted: &str) {
     let about = text.get(..60).unwrap_or(text);
     match text.parse::<Mime>() {
@@ -278,8 +279,8 @@ fn urls() {
     URLS.iter().for_each(|row| assert_url(*row));
 }
 
-/// Headers that name no type, that name the one which stands for these, and that name one which is nearly the same. The body says
-/// whether it is base64.
+/// Headers that name no type, that name the one which stands for these, and that name one which is nearly the same.
+/// The body says whether it is base64.
 #[test]
 fn headers_around_the_default_type() {
     #[rustfmt::skip]

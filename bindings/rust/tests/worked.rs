@@ -109,8 +109,9 @@ fn a_decoder_that_has_failed_fails_again() {
     assert_eq!(bytes, b"ABC");
 }
 
-/// The pieces of a text that a decoder is fed in parts of a length, up to a call of the closure that returns an error, and how
-/// feeding and finishing ended. Asserts that the error ends the call in which it was returned, and that no other call ends.
+/// The pieces of a text that a decoder is fed in parts of a length, up to a call of the closure that returns an
+/// error, and how feeding and finishing ended. Asserts that the error ends the call in which it was returned, and
+/// that no other call ends.
 fn fed_pieces(text: &[u8], part: usize, refused: usize) -> (Vec<Vec<u8>>, Result<(), String>) {
     let pieces = RefCell::new(Vec::new());
     let mut decoder = Decoder::new(|piece: &[u8]| {
@@ -138,7 +139,8 @@ fn fed_pieces(text: &[u8], part: usize, refused: usize) -> (Vec<Vec<u8>>, Result
     )
 }
 
-/// A part of 512 bytes or more is fed through a larger buffer than a shorter one, and a long one needs that more than once.
+/// A part of 512 bytes or more is fed through a larger buffer than a shorter one, and a long one needs that more than
+/// once.
 #[test]
 fn closures_of_a_decoder_that_refuse_each_call() {
     for (text, end) in [

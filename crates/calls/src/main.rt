@@ -1,5 +1,5 @@
-//! Makes one public call of the library, named by the first line of standard input, on the text after it, and writes what it
-//! returns. It allocates nothing itself, so that a check can make each allocation of the call fail in turn.
+//! Makes one public call of the library, named by the first line of standard input, on the text after it, and writes
+//! what it returns. It allocates nothing itself, so that a check can make each allocation of the call fail in turn.
 #![tactic(auto)]
 
 ghost use Rattle.std.specs.Prelude.{◌≤◌, IfOk, IsTrue, length};

@@ -1,11 +1,13 @@
 //! The header of a data: URL (Fetch Standard, section 6), from its text in the input.
 
-ghost use Rattle.std.specs.Prelude.{◌≡◌, if◌then◌else◌, [], IfOk, IfSome, List, MatchOption, codes, map, string_bytes, true, ℕ};
+ghost use Rattle.std.specs.Prelude.{◌≡◌, if◌then◌else◌, [], IfOk, IfSome, List, MatchOption, codes, map};
+ghost use Rattle.std.specs.Prelude.{string_bytes, true, ℕ};
 ghost use Rattle.std.specs.{Char.{to_ascii_lowercase}, Str.{bytes_eq, chars}};
 ghost use Rattle.data_url.specs.{Url.{without_tabs_and_newlines}, Fetch.{before_base64, with_plain}};
 ghost use Rattle.data_url.specs.Mime.{IsHead, Record, default_record};
 ghost use Rattle.data_url.specs.Steps.{MimeParts.{WritesParts}, Parsing.{HasNoHead}};
-ghost use Rattle.data_url.specs.Steps.Header.{IsHeaderOf, IsPathAndQuery, IsPrintable, IsRecordFor, IsSerialised, encoded_parts, header_text};
+ghost use Rattle.data_url.specs.Steps.Header.{IsHeaderOf, IsPathAndQuery, IsPrintable, IsRecordFor, IsSerialised};
+ghost use Rattle.data_url.specs.Steps.Header.{encoded_parts, header_text};
 ghost use Rattle.data_url.specs.MimeType.{as_option, record_of};
 
 use crate::classes::{Class, end_span, long_span};
@@ -16,7 +18,8 @@ use std::alloc::{AllocError, Global};
 
 const SUFFIX: [u8; 6] = *b"base64";
 
-/// Splits off the space at the end of a path that a query follows. Returns the path without it, and whether there is one.
+/// Splits off the space at the end of a path that a query follows. Returns the path without it, and whether there is
+/// one.
 #[tactic(auto, using(crate::proofs::header::Serialising::last_spaces))]
 fn split_last_space<'a>(path: &'a [u8], query: &[u8]) -> (&'a [u8], bool)
     ensures { (header : List ℕ) → IsPathAndQuery header path.now query.now
@@ -30,7 +33,8 @@ fn split_last_space<'a>(path: &'a [u8], query: &[u8]) -> (&'a [u8], bool)
     (&path[..end - 1], true)
 }
 
-/// Returns the text of a header, serialised. Room is allocated once for a header of at most 128 bytes; for a longer one it may grow.
+/// Returns the text of a header, serialised. Room is allocated once for a header of at most 128 bytes; for a longer
+/// one it may grow.
 #[inline(never)]
 #[tactic(auto, using(crate::proofs::header::Serialising::serialising))]
 fn serialised(alloc: Global, header: &[u8]) -> Result<String, AllocError>
@@ -145,8 +149,8 @@ pub(crate) fn read_media(alloc: Global, media: &str) -> Result<Mime, AllocError>
     }
 }
 
-/// Writes the record of a header without its suffix, or the default record, in parts to the start of an output that has room for it.
-/// Returns how many bytes it has.
+/// Writes the record of a header without its suffix, or the default record, in parts to the start of an output that
+/// has room for it. Returns how many bytes it has.
 pub(crate) fn write_media(
     alloc: Global,
     media: &str,

@@ -21,8 +21,8 @@ use std::alloc::{AllocError, Global};
 use std::error::Error;
 use std::fmt;
 
-/// A MIME type record: a type, a subtype and parameters in order. Its fields may have any text. In a record that was parsed,
-/// the type, the subtype and the names are in ASCII lower case.
+/// A MIME type record: a type, a subtype and parameters in order. Its fields may have any text. In a record that was
+/// parsed, the type, the subtype and the names are in ASCII lower case.
 ///
 /// Contracts see a record as three lists of code points, `record_of` of it.
 #[derive(Debug, Drop)]

@@ -117,7 +117,8 @@ const SMALLEST_OUTPUT: usize = 8;
 #[repr(C)]
 #[derive(Clone, Copy)]
 pub struct DataUrlBody {
-    /// Where the body goes on in the tail. After status 0, where it has ended: at the `#` of the fragment, or at the end.
+    /// Where the body goes on in the tail. After status 0, where it has ended: at the `#` of the fragment, or at the
+    /// end.
     pub from: usize,
     /// What is left over of base64.
     pub left: DataUrlBase64,

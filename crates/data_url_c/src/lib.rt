@@ -14,7 +14,10 @@
 //! | 5 | the output is too small, and unchanged | that is needed; 0 from those whose names end in `_next` or `_feed` |
 //! | 6 | the text is not a MIME type | 0 |
 //! | 7 | the URL has no fragment | 0 |
-//! | 8, 9, 10, 256 and a byte | base64 with padding that does not fit, a lone symbol, a symbol after padding, an unexpected byte | of the bytes before the fault, at the start of the output |
+//! | 8 | base64 with padding that does not fit | of the bytes before the fault, at the start of the output |
+//! | 9 | base64 with a lone symbol | the same |
+//! | 10 | base64 with a symbol after padding | the same |
+//! | 256 and a byte | base64 with that unexpected byte | the same |
 //! | 11 | the body or fragment goes on (from `_next`) | of the part that was written |
 //! | 12 | a state that no call returned | 0 |
 //!
@@ -30,8 +33,8 @@
 //! | `dataurl_body` into a large output | 2 | 5 |
 //! | the others | 3 | 6 |
 //!
-//! A header with a `?`, a tab, a newline or a byte to percent-encode takes one more. Without a MIME type it counts as one
-//! with a parameter.
+//! A header with a `?`, a tab, a newline or a byte to percent-encode takes one more. Without a MIME type it counts as
+//! one with a parameter.
 #![tactic(auto)]
 
 ghost use Rattle.std.specs.Prelude.{IsUtf8};
@@ -100,10 +103,9 @@ pub extern "C" fn dataurl_type(alloc: Global, text: &[u8], out: &mut [u8]) -> Da
     answer(mime::type_(alloc, text), out)
 }
 
-/// A MIME type, parsed
-/// ([MIME Sniffing Standard, section 4.4](https://mimesniff.spec.whatwg.org/#parsing-a-mime-type)), in parts: the type, the
-/// subtype, and the name and the value of each parameter. Each part comes after its length, which takes eight bytes, the
-/// lowest first.
+/// A MIME type, parsed ([MIME Sniffing Standard, section
+/// 4.4](https://mimesniff.spec.whatwg.org/#parsing-a-mime-type)), in parts: the type, the subtype, and the name and
+/// the value of each parameter. Each part comes after its length, which takes eight bytes, the lowest first.
 #[unsafe(no_mangle)]
 pub extern "C" fn dataurl_type_parts(alloc: Global, text: &[u8], out: &mut [u8]) -> DataUrlAnswer
     ensures { Answers (GivesTypeInParts text.now) out.old out.new result }
@@ -137,8 +139,8 @@ pub extern "C" fn dataurl_base64(alloc: Global, text: &[u8], out: &mut [u8]) -> 
     answer(base64::base64(alloc, text), out)
 }
 
-/// Opens a data: URL ([Fetch Standard, section 6](https://fetch.spec.whatwg.org/#data-url-processor)): its printed MIME type,
-/// where its tail begins, and whether its body is base64. The body is not decoded.
+/// Opens a data: URL ([Fetch Standard, section 6](https://fetch.spec.whatwg.org/#data-url-processor)): its printed
+/// MIME type, where its tail begins, and whether its body is base64. The body is not decoded.
 #[unsafe(no_mangle)]
 pub extern "C" fn dataurl_open(alloc: Global, url: &[u8], out: &mut [u8]) -> DataUrlOpened
     ensures { Opens url.now out.old out.new result }
@@ -182,10 +184,10 @@ pub extern "C" fn dataurl_open_parts_utf8(
     open::open_in_parts(alloc, unsafe { str::from_utf8_unchecked(url) }, out)
 }
 
-/// Feeds a part of base64
-/// ([Infra Standard, forgiving-base64 decode](https://infra.spec.whatwg.org/#forgiving-base64-decode)), cut anywhere, and
-/// writes the bytes of the groups that it completes. It reads the whole part if that has at most three bytes less than
-/// the output, and otherwise at least one byte. After a fault, calls reject the state.
+/// Feeds a part of base64 ([Infra Standard, forgiving-base64
+/// decode](https://infra.spec.whatwg.org/#forgiving-base64-decode)), cut anywhere, and writes the bytes of the groups
+/// that it completes. It reads the whole part if that has at most three bytes less than the output, and otherwise at
+/// least one byte. After a fault, calls reject the state.
 #[unsafe(no_mangle)]
 pub extern "C" fn dataurl_base64_feed(
     state: &mut DataUrlBase64,
@@ -206,10 +208,10 @@ pub extern "C" fn dataurl_base64_finish(state: &mut DataUrlBase64, out: &mut [u8
     base64::finish(state, out)
 }
 
-/// Decodes the next part of a body into the output, without allocation
-/// ([Fetch Standard, section 6](https://fetch.spec.whatwg.org/#data-url-processor)). The state begins with `from` at 0 and
-/// nothing left over. Each call is passed the same tail, which may be any bytes. While the status is 11, the body goes on. With
-/// status 0 it has ended, and `from` is the place of the `#` before the fragment, or the length of the tail.
+/// Decodes the next part of a body into the output, without allocation ([Fetch Standard, section
+/// 6](https://fetch.spec.whatwg.org/#data-url-processor)). The state begins with `from` at 0 and nothing left over.
+/// Each call is passed the same tail, which may be any bytes. While the status is 11, the body goes on. With status 0
+/// it has ended, and `from` is the place of the `#` before the fragment, or the length of the tail.
 #[unsafe(no_mangle)]
 pub extern "C" fn dataurl_body_next(
     state: &mut DataUrlBody,

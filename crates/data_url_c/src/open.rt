@@ -83,7 +83,8 @@ pub(crate) fn open(alloc: Global, text: &str, out: &mut [u8]) -> DataUrlOpened
     }
 }
 
-/// Opens the URL of a text. Its MIME type is written in parts. It is compiled into its one caller, so that the result is not copied.
+/// Opens the URL of a text. Its MIME type is written in parts. It is compiled into its one caller, so that the result
+/// is not copied.
 #[inline(always)]
 pub(crate) fn open_in_parts(alloc: Global, text: &str, out: &mut [u8]) -> DataUrlOpened
     ensures { OpensInParts text.now out.old out.new result }

@@ -18,8 +18,8 @@ pub enum Command {
     Base64,
 }
 
-/// Returns the command of the words after the program's name: there has to be exactly one, and it has to be `body`, `mime`,
-/// `fragment`, `type` or `base64`, letter for letter. Any other list of words has none.
+/// Returns the command of the words after the program's name: there has to be exactly one, and it has to be `body`,
+/// `mime`, `fragment`, `type` or `base64`, letter for letter. Any other list of words has none.
 pub fn command_of(words: &[String]) -> Option<Command>
     ensures { result ≡ command_of_words (map string_bytes words.now) }
 {

@@ -53,8 +53,8 @@ impl Fault {
     }
 }
 
-/// Writes the line of a fault and returns the exit status: 1 if the input is not valid, 3 if allocation, a read or a write
-/// failed. Nothing is allocated. If this write fails too, that is ignored.
+/// Writes the line of a fault and returns the exit status: 1 if the input is not valid, 3 if allocation, a read or a
+/// write failed. Nothing is allocated. If this write fails too, that is ignored.
 pub fn report<W: Write>(fault: &Fault, writer: &mut W) -> u8
     ensures { result ≡ status_of fault.now }
 {
@@ -62,8 +62,8 @@ pub fn report<W: Write>(fault: &Fault, writer: &mut W) -> u8
     fault.status()
 }
 
-/// Writes the line on how to call the program and returns the exit status 2. Nothing is allocated, and a failed write is
-/// ignored.
+/// Writes the line on how to call the program and returns the exit status 2. Nothing is allocated, and a failed write
+/// is ignored.
 pub fn usage<W: Write>(writer: &mut W) -> u8
     ensures { result ≡ 2 }
 {

@@ -1,4 +1,5 @@
-//! Worked examples of the program: words of a command line, an input, what is written, the line for standard error, and the status.
+//! Worked examples of the program: words of a command line, an input, what is written, the line for standard error,
+//! and the status.
 
 use crate::fault::Fault;
 use crate::program::execute;

@@ -1,5 +1,5 @@
-//! Makes the tests of a file use the level that the variable `DATA_URL_LEVEL` names, 2 or 3, as `bindings/c/level.c` does for
-//! those in C. It is there only with the library that chooses.
+//! Makes the tests of a file use the level that the variable `DATA_URL_LEVEL` names, 2 or 3, as `bindings/c/level.c`
+//! does for those in C. It is there only with the library that chooses.
 #![cfg(data_url_chooses)]
 
 extern "C" {

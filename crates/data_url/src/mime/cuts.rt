@@ -1,4 +1,5 @@
-//! Where texts are cut: at HTTP whitespace, at a character and after token code points (MIME Sniffing Standard, section 3).
+//! Where texts are cut: at HTTP whitespace, at a character and after token code points (MIME Sniffing Standard,
+//! section 3).
 #![tactic(auto, using(crate::proofs::mime::Parsing::cuts))]
 
 ghost use Rattle.std.specs.{Prelude.{◌≡◌, ◌<◌, [], None, Some, MatchOption, length, take}, Str.{chars}};
@@ -64,7 +65,8 @@ pub(super) fn split_tokens(text: &str) -> Option<(&str, &str)>
     Some(text.split_at(len))
 }
 
-/// Splits a text before its first `;` or `=`. The flag is whether the first part has token code points alone, and is not empty.
+/// Splits a text before its first `;` or `=`. The flag is whether the first part has token code points alone, and is
+/// not empty.
 #[inline(always)]
 #[tactic(auto, using(crate::proofs::mime::TokenTexts::names))]
 pub(super) fn split_name(text: &str) -> (&str, bool, &str)

@@ -5,7 +5,9 @@ ghost use Rattle.std.specs.{Char.{to_ascii_lowercase}, Int.{to_le_bytes, w64}, L
 ghost use Rattle.data_url.specs.Mime.{BeginsParameters, IsRecordOfParts, default_record, is_token_text};
 ghost use Rattle.data_url.specs.Parts.{ReadsMimeType, WritesIfFits, part, parts_of, parts_of_pair};
 ghost use Rattle.data_url.specs.{MimeType.{pair_of}, Steps.Parsing.{unescaped}};
-ghost use Rattle.data_url.specs.Steps.{Few.{AreAllTokens, sliced_pair, value_text}, MimeParts.{Adds, HasTokens, Puts, WritesParts, WritesRecord, head_record, pairs_in}};
+ghost use Rattle.data_url.specs.Steps.Few.{AreAllTokens, sliced_pair, value_text};
+ghost use Rattle.data_url.specs.Steps.MimeParts.{Adds, HasTokens, Puts, WritesParts, WritesRecord, head_record};
+ghost use Rattle.data_url.specs.Steps.MimeParts.{pairs_in};
 
 use super::few::{FewParameters, NameAndValue};
 use super::lower::copy_lowercase;
@@ -22,7 +24,8 @@ const LONGEST: usize = 0x7fff_ffff_ffff_ffff;
 const DEFAULT: &[u8; 56] = b"\x04\0\0\0\0\0\0\0text\x05\0\0\0\0\0\0\0plain\
 \x07\0\0\0\0\0\0\0charset\x08\0\0\0\0\0\0\0US-ASCII";
 
-/// Writes bytes to an output at a place, if they fit. Returns the place after them, whether or not they fit; at most `usize::MAX`.
+/// Writes bytes to an output at a place, if they fit. Returns the place after them, whether or not they fit; at most
+/// `usize::MAX`.
 #[inline(always)]
 fn put(output: &mut [u8], at: usize, bytes: &[u8]) -> usize
     ensures puts { Puts bytes.now output.old at output.new result }
@@ -158,8 +161,9 @@ enum Parameters<'a> {
 }
 
 impl<'a> Head<'a> {
-    /// Puts the record of a MIME type with these parts and parameters, in parts, at the start of an output. Returns how many bytes it
-    /// has, up to `usize::MAX`. It is compiled into its caller, where nothing but this length is left of it if the output is empty.
+    /// Puts the record of a MIME type with these parts and parameters, in parts, at the start of an output. Returns
+    /// how many bytes it has, up to `usize::MAX`. It is compiled into its caller, where nothing but this length is
+    /// left of it if the output is empty.
     #[inline(always)]
     fn put(&self, parameters: Parameters<'_>, output: &mut [u8]) -> usize
         requires type_ { IsTrue (is_token_text (chars self.now.type_.now)) }
@@ -176,8 +180,8 @@ impl<'a> Head<'a> {
         }
     }
 
-    /// Writes the record of a MIME type with these parts and parameters, in parts, to the start of an output that has room for it.
-    /// Returns how many bytes it has, or an error if they are more than `LONGEST`.
+    /// Writes the record of a MIME type with these parts and parameters, in parts, to the start of an output that has
+    /// room for it. Returns how many bytes it has, or an error if they are more than `LONGEST`.
     fn write_with(&self, parameters: Parameters<'_>, output: &mut [u8]) -> Result<usize, AllocError>
         requires type_ { IsTrue (is_token_text (chars self.now.type_.now)) }
         requires subtype { IsTrue (is_token_text (chars self.now.subtype.now)) }
@@ -195,8 +199,8 @@ impl<'a> Head<'a> {
         Ok(len)
     }
 
-    /// Writes the record of a MIME type with these parts, in parts, to the start of an output that has room for it. Returns how many
-    /// bytes it has. Allocates only if many parameters are kept.
+    /// Writes the record of a MIME type with these parts, in parts, to the start of an output that has room for it.
+    /// Returns how many bytes it has. Allocates only if many parameters are kept.
     pub(crate) fn write(&self, alloc: Global, output: &mut [u8]) -> Result<usize, AllocError>
         requires type_ { IsTrue (is_token_text (chars self.now.type_.now)) }
         requires subtype { IsTrue (is_token_text (chars self.now.subtype.now)) }
@@ -232,8 +236,8 @@ impl<'a> Head<'a> {
     }
 }
 
-/// Writes the record of a URL without a MIME type, in parts, to the start of an output that has room for it. Returns how many bytes it
-/// has.
+/// Writes the record of a URL without a MIME type, in parts, to the start of an output that has room for it. Returns
+/// how many bytes it has.
 pub(crate) fn write_default(output: &mut [u8]) -> usize
     ensures { WritesIfFits (parts_of default_record) output.old output.new result }
 {

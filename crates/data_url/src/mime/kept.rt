@@ -1,6 +1,7 @@
 //! The parameters that are kept while a MIME type is read: of each name the first.
 
-ghost use Rattle.std.specs.Prelude.{false, ◌≡◌, ◌==◌, ◌<◌, ◌≤◌, ◌+◌, ◌++◌, ◌∷◌, [], IsTrue, OnOk, drop, length, map, take, true};
+ghost use Rattle.std.specs.Prelude.{false, ◌≡◌, ◌==◌, ◌<◌, ◌≤◌, ◌+◌, ◌++◌, ◌∷◌, [], IsTrue, OnOk, drop, length, map};
+ghost use Rattle.std.specs.Prelude.{take, true};
 ghost use Rattle.std.specs.{Char.{to_ascii_lowercase}, Simd.Lanes.{mask_l}, Str.{chars}};
 ghost use Rattle.data_url.specs.{Mime.{has_name, is_lowercase_name, is_token_text}, MimeType.{code_points}};
 ghost use Rattle.data_url.specs.Steps.Parsing.{unless_named};
@@ -20,7 +21,8 @@ pub(super) const FINGERPRINTS_LEN: usize = 144;
 /// The bit in which the two cases of an ASCII letter differ.
 const CASE: u8 = 32;
 
-/// The pairs that are kept. The first ones have fingerprints, by which they are found. The names of the later ones are in a set.
+/// The pairs that are kept. The first ones have fingerprints, by which they are found. The names of the later ones
+/// are in a set.
 #[derive(Drop)]
 pub(super) struct KeptParameters {
     pub(super) pairs: Vec<(String, String)>,
@@ -51,8 +53,8 @@ impl KeptParameters {
         false
     }
 
-    /// Whether one of the pairs of a row has the name, in any ASCII case. The row begins at `at`, and `bits` are those of its
-    /// pairs whose fingerprint is that of the name.
+    /// Whether one of the pairs of a row has the name, in any ASCII case. The row begins at `at`, and `bits` are
+    /// those of its pairs whose fingerprint is that of the name.
     #[inline(always)]
     fn is_in_row(&self, name: &str, at: usize, bits: u64) -> bool
         requires indexed { IsIndexed self.now }

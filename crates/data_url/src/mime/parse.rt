@@ -1,10 +1,14 @@
 //! Reads a MIME type (MIME Sniffing Standard, section 4.4).
 
-ghost use Rattle.std.specs.Prelude.{◌≡◌, ◌≢◌, ◌<◌, ◌++◌, List, MatchOption, IfOk, IsTrue, OnOk, codes, drop, false, length, map, slice_index, suc, take, true};
+ghost use Rattle.std.specs.Prelude.{◌≡◌, ◌≢◌, ◌<◌, ◌++◌, List, MatchOption, IfOk, IsTrue, OnOk, codes, drop, false};
+ghost use Rattle.std.specs.Prelude.{length, map, slice_index, suc, take, true};
 ghost use Rattle.std.specs.Str.{chars};
-ghost use Rattle.data_url.specs.Mime.{BeginsParameters, IsHead, Item, Items, is_token_text, kept_pairs, valid_of, IsRecordOfParts};
+ghost use Rattle.data_url.specs.Mime.{BeginsParameters, IsHead, Item, Items, is_token_text, kept_pairs, valid_of};
+ghost use Rattle.data_url.specs.Mime.{IsRecordOfParts};
 ghost use Rattle.data_url.specs.Url.{without_start};
-ghost use Rattle.data_url.specs.Steps.Parsing.{HasNoHead, Quoting, given_reading, in_value, item_in, pair_in, plain_reading, quotable_value, quoted_len, reading_in, unescaped, unless_named, value_of};
+ghost use Rattle.data_url.specs.Steps.Parsing.{HasNoHead, Quoting, given_reading, in_value, item_in, pair_in};
+ghost use Rattle.data_url.specs.Steps.Parsing.{plain_reading, quotable_value, quoted_len, reading_in, unescaped};
+ghost use Rattle.data_url.specs.Steps.Parsing.{unless_named, value_of};
 ghost use Rattle.data_url.specs.{Steps.Kept.{IsIndexed, pairs_of}, MimeType.{pair_of, record_of}};
 
 use super::Mime;
@@ -146,8 +150,8 @@ fn read_plain(text: &str) -> (Value<'_>, &str)
     (Value::Plain(value), rest)
 }
 
-/// Splits a text at the quote that closes a quoted string. If there is none, the whole text is the quoted string. The flag is whether
-/// the quoted string has neither `"` nor `\`.
+/// Splits a text at the quote that closes a quoted string. If there is none, the whole text is the quoted string. The
+/// flag is whether the quoted string has neither `"` nor `\`.
 #[tactic(auto, using(crate::proofs::mime::TokenTexts::quotes, crate::proofs::mime::Parsing::verbatim))]
 fn split_quote(text: &str) -> (&str, bool, &str)
     ensures quoted { chars result.0.now

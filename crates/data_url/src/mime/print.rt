@@ -8,7 +8,8 @@ use super::line::Line;
 use crate::classes::{Class, long_span};
 use std::fmt;
 
-/// Adds `;`, a name, `=` and a value: as it is if it is not empty and has only token code points, and otherwise in quotes.
+/// Adds `;`, a name, `=` and a value: as it is if it is not empty and has only token code points, and otherwise in
+/// quotes.
 pub(super) fn push_parameter<W: fmt::Write>(
     line: &mut Line,
     f: &mut fmt::Formatter<W>,
@@ -61,7 +62,8 @@ fn write_each_escaped<W: fmt::Write>(f: &mut fmt::Formatter<W>, text: &str) -> f
     Ok(())
 }
 
-/// Writes a code point, with a `\` before a `"` or a `\`, by one call of the writer. The length of an ASCII one is a constant.
+/// Writes a code point, with a `\` before a `"` or a `\`, by one call of the writer. The length of an ASCII one is a
+/// constant.
 fn write_escaped_char<W: fmt::Write>(f: &mut fmt::Formatter<W>, c: char) -> fmt::Result
     ensures { WritesStyledOnOk W.write_str_gives f.old result
         (encode_utf8_all (escaped_code_point c)) f.new }

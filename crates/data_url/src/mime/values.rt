@@ -25,8 +25,8 @@ pub(super) enum Value<'a> {
 }
 
 impl<'a> Value<'a> {
-    /// Returns whether the value is there and has quoted-string code points alone. `\` is one of them, so a quoted string is tested
-    /// before its escapes are removed.
+    /// Returns whether the value is there and has quoted-string code points alone. `\` is one of them, so a quoted
+    /// string is tested before its escapes are removed.
     pub(super) fn is_valid(&self) -> bool
         ensures { MatchBool result (value_of self.now ≡ Some (value_text self.now))
             (value_of self.now ≡ None) }
@@ -77,8 +77,9 @@ fn unescaped(alloc: Global, quoted: &str) -> Result<String, AllocError>
     Ok(unsafe { String::from_utf8_unchecked(value) })
 }
 
-/// Copies the byte at a place or, if it is a `\` before another one, that one and the rows after it. Returns how many bytes of the
-/// text this takes, and how many are copied. These are two ways, so that the processor need not wait for the byte before it goes on.
+/// Copies the byte at a place or, if it is a `\` before another one, that one and the rows after it. Returns how many
+/// bytes of the text this takes, and how many are copied. These are two ways, so that the processor need not wait for
+/// the byte before it goes on.
 #[inline(always)]
 fn copy_next(bytes: &[u8], at: usize, value: &mut [u8], len: usize) -> (usize, usize)
     requires within { at < length bytes.now }
@@ -97,8 +98,8 @@ fn copy_next(bytes: &[u8], at: usize, value: &mut [u8], len: usize) -> (usize, u
     (1 + copied, copied)
 }
 
-/// Copies the bytes before the first `"` or `\` of the whole rows of a text, or all of them. Returns how many. Bytes after them may be
-/// overwritten. The first byte is tested by itself, since one escape often follows another.
+/// Copies the bytes before the first `"` or `\` of the whole rows of a text, or all of them. Returns how many. Bytes
+/// after them may be overwritten. The first byte is tested by itself, since one escape often follows another.
 #[inline(always)]
 fn copy_rows(text: &[u8], value: &mut [u8], len: usize) -> usize
     requires { len + length text.now ≤ length value.old }

@@ -29,8 +29,8 @@ pub struct Header<'a> {
 ///
 /// Returns `NotADataUrl` exactly if the text does not begin with the scheme `data:`, and `NoComma` exactly if it does
 /// and there is no comma before its fragment. Allocates only for a header with a `?`, a tab, a newline or a byte to
-/// percent-encode, and for a MIME type with more than 8 parameters. Returns `OutOfMemory` if that fails, or if the parts
-/// have 2 to the power of 63 bytes or more together.
+/// percent-encode, and for a MIME type with more than 8 parameters. Returns `OutOfMemory` if that fails, or if the
+/// parts have 2 to the power of 63 bytes or more together.
 #[tactic(auto, using(crate::proofs::header::Stages::stages))]
 pub fn read_header<'a>(
     alloc: Global,
