@@ -6,11 +6,11 @@ ghost use Rattle.data_url.specs.{Fetch.{outcome, plain_body}, DataUrl.{Decodes},
 ghost use Rattle.data_url.specs.{Decoder.{state_of}, Steps.Parts.{DecodesPartOf, DecodesWithin}};
 
 use crate::escapes::{BUFFER_LEN, Walk};
-use crate::forgiving_base64::{DecodeError, DecodeToVecError, Decoder, LeftOver, room_for};
+use crate::forgiving_base64::{DecodeError, DecodeToVecError, Decoder, LeftOver, max_decoded_len};
 use std::alloc::{AllocError, Global};
 
 /// The most room, in bytes of the text, that is allocated first for a body that is likely to be shorter than its text.
-const FIRST_ROOM: usize = 64 * 1024;
+const FIRST_CAPACITY: usize = 64 * 1024;
 
 /// How many bytes of a tail the decoder is fed at once, at most.
 const FED_AT_ONCE: usize = 4 * 1024;
@@ -37,14 +37,14 @@ where
     if walk.has_ended() {
         return Ok(());
     }
-    let mut room = [0; BUFFER_LEN];
+    let mut buffer = [0; BUFFER_LEN];
     let least = if most < BUFFER_LEN { 1 } else { BUFFER_LEN };
     let mut left = most;
     'pieces: while !walk.has_ended() {
         if left < least && left < walk.rest_len() {
             break 'pieces;
         }
-        let Some(bytes) = walk.next_bytes(&mut room, left.max(1).min(at_once)) else {
+        let Some(bytes) = walk.next_bytes(&mut buffer, left.max(1).min(at_once)) else {
             break 'pieces;
         };
         take(bytes)?;
@@ -198,11 +198,11 @@ pub(crate) fn plain_to_vec(alloc: Global, tail: &[u8]) -> Result<(Vec<u8>, usize
     ensures { IsBodyInVec false tail.now result }
 {
     let (prefix, walk) = Walk::after_prefix(tail, tail.len());
-    let mut room = prefix.len();
-    if room < tail.len() && tail[room] != b'#' {
-        room = room.max(tail.len().min(FIRST_ROOM));
+    let mut capacity = prefix.len();
+    if capacity < tail.len() && tail[capacity] != b'#' {
+        capacity = capacity.max(tail.len().min(FIRST_CAPACITY));
     }
-    let Ok(mut bytes) = Vec::with_capacity(alloc, room) else {
+    let Ok(mut bytes) = Vec::with_capacity(alloc, capacity) else {
         return Err(DecodeToVecError::OutOfMemory);
     };
     let ended = decode_plain(prefix, walk, |piece: &[u8]| -> Result<(), AllocError> {
@@ -216,10 +216,10 @@ pub(crate) fn plain_to_vec(alloc: Global, tail: &[u8]) -> Result<(Vec<u8>, usize
 
 /// Returns how many symbols room is allocated for first: for all of the tail if it is short, or if its first bytes are symbols.
 fn first_len(tail: &[u8]) -> usize {
-    if tail.len() <= FIRST_ROOM || Walk::after_prefix(tail, PROBED).0.len() == PROBED {
+    if tail.len() <= FIRST_CAPACITY || Walk::after_prefix(tail, PROBED).0.len() == PROBED {
         return tail.len();
     }
-    FIRST_ROOM
+    FIRST_CAPACITY
 }
 
 /// Gives room back that was allocated for a fragment, if it is at least 4 KiB and half of all, or if the body is clean.
@@ -228,7 +228,7 @@ fn shrink(tail: &[u8], body: &mut Vec<u8>, place: usize)
 {
     let is_large = body.capacity() / 2 > body.len().max(PROBED);
     if place < tail.len() && (is_large || Walk::after_prefix(tail, tail.len()).0.len() == place) {
-        body.shrink_to(room_for(place));
+        body.shrink_to(max_decoded_len(place));
     }
 }
 
@@ -239,7 +239,7 @@ pub(crate) fn base64_to_vec(
 ) -> Result<(Vec<u8>, usize), DecodeToVecError>
     ensures { IsBodyInVec true tail.now result }
 {
-    let Ok(mut bytes) = Vec::with_capacity(alloc, room_for(first_len(tail))) else {
+    let Ok(mut bytes) = Vec::with_capacity(alloc, max_decoded_len(first_len(tail))) else {
         return Err(DecodeToVecError::OutOfMemory);
     };
     let ended = decode_base64(tail, |piece: &[u8]| -> Result<(), AllocError> {

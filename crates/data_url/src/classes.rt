@@ -54,7 +54,7 @@ const CLASSES: [u8; 256] = [
 ];
 
 /// For each low half of a byte, the bits of the columns in which such a byte is outside of the class `Unescaped`.
-pub(crate) const ESCAPED: [u8; 16] = [0, 0, 2, 0, 0, 0, 0, 0, 0, 0, 0, 0, 16, 0, 0, 0];
+pub(crate) const UNESCAPED: [u8; 16] = [0, 0, 2, 0, 0, 0, 0, 0, 0, 0, 0, 0, 16, 0, 0, 0];
 
 /// Whether a byte is in a class.
 #[inline(always)]
@@ -104,7 +104,7 @@ pub(crate) fn long_span(class: Class, bytes: &[u8]) -> usize
 {
     // For each low half of a byte, the bits of the columns in which such a byte may be outside the class. A class whose
     // runs are short in most texts has all bits.
-    let others = match class {
+    let class_table = match class {
         Class::Quotable => [
             129, 129, 129, 129, 129, 129, 129, 129, 129, 129, 129, 129, 129, 129, 129, 193,
         ],
@@ -115,10 +115,10 @@ pub(crate) fn long_span(class: Class, bytes: &[u8]) -> usize
             129, 129, 129, 131, 129, 129, 129, 129, 129, 129, 129, 129, 131, 129, 129, 197,
         ],
         Class::Path => [0, 0, 0, 0, 0, 0, 0, 0, 0, 0, 0, 0, 0, 0, 0, 4],
-        Class::Unescaped => ESCAPED,
+        Class::Unescaped => UNESCAPED,
         _ => [255; 16],
     };
-    let rows = rows_len(others, bytes);
+    let rows = rows_len(class_table, bytes);
     rows + span(class, &bytes[rows..])
 }
 

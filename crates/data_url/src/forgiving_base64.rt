@@ -199,7 +199,7 @@ where
 }
 
 /// Returns how many bytes a text of base64 of this length decodes to at most.
-pub(crate) fn room_for(len: usize) -> usize
+pub(crate) fn max_decoded_len(len: usize) -> usize
     ensures { result ≡ len / 4 * 3 + len % 4 * 3 / 4 }
 {
     len / 4 * 3 + len % 4 * 3 / 4
@@ -216,7 +216,7 @@ pub fn decode_to_vec(alloc: Global, input: &[u8]) -> Result<Vec<u8>, DecodeToVec
     ensures bytes { IfOk result (λ bytes. bytes.items ≡ decoded input.now) }
     ensures error { IfErr result (IsErrorOf input.now) }
 {
-    let Ok(mut bytes) = Vec::with_capacity(alloc, room_for(input.len())) else {
+    let Ok(mut bytes) = Vec::with_capacity(alloc, max_decoded_len(input.len())) else {
         return Err(DecodeToVecError::OutOfMemory);
     };
     let ended = decode_whole(input, |piece: &[u8]| -> Result<(), AllocError> {

@@ -40,7 +40,7 @@ pub(crate) const BUFFER_LEN: usize = 512;
 pub(crate) fn encode_next<'a: 'r, 'r>(
     set: EncodeSet,
     bytes: &'a [u8],
-    room: &'r mut [u8; BUFFER_LEN],
+    buffer: &'r mut [u8; BUFFER_LEN],
 ) -> (&'r [u8], &'a [u8])
     ensures written { result.0.now
         ++ percent_encoding (in_set set) (without_tabs_and_newlines result.1.now)
@@ -51,17 +51,17 @@ pub(crate) fn encode_next<'a: 'r, 'r>(
 {
     let (part, after_part) = bytes.split_at(bytes.len().min(PART));
     let tested = &bytes[..bytes.len().min(TESTED_AT_ONCE)];
-    let (kept, after) = bytes.split_at(rows_len(others(set), tested));
+    let (kept, after) = bytes.split_at(rows_len(unencoded_table(set), tested));
     if 2 * kept.len() >= part.len() {
         return (kept, after);
     }
     let mut at = 0;
     for byte in part {
         let entry = entry(set, *byte);
-        room[at..at + 4].copy_from_slice(entry);
+        buffer[at..at + 4].copy_from_slice(entry);
         at += usize::from(entry[3]);
     }
-    (&room[..at], after_part)
+    (&buffer[..at], after_part)
 }
 
 /// Writes bytes at the end of a text, without their tabs and newlines and percent-encoded.
@@ -78,10 +78,10 @@ pub(crate) fn push_encoded(
     if bytes.is_empty() {
         return Ok(());
     }
-    let mut room = [0; BUFFER_LEN];
+    let mut buffer = [0; BUFFER_LEN];
     let mut rest = bytes;
     while !rest.is_empty() {
-        let (written, after) = encode_next(set, rest, &mut room);
+        let (written, after) = encode_next(set, rest, &mut buffer);
         text.push_str(unsafe { str::from_utf8_unchecked(written) })?;
         rest = after;
     }
@@ -154,7 +154,7 @@ const FRAGMENT: [u8; 1024] = *b"\
 /// The class of the bytes that are written as they are, by the low halves of bytes.
 #[inline(always)]
 #[rattlefmt::skip]
-fn others(set: EncodeSet) -> [u8; 16]
+fn unencoded_table(set: EncodeSet) -> [u8; 16]
     ensures { (b : ℕ) → b < 256 → is_marked result b ≡ false
         → byte_encoding (in_set set) b ≡ b ∷ [] }
 {

@@ -2,7 +2,7 @@
 
 ghost use Rattle.std.specs.Prelude.{◌≡◌, ◌+◌, ◌++◌, ◌<◌, ◌≤◌, drop, length, map, not, replicate, take};
 ghost use Rattle.std.specs.{List.{list_all}, Simd.Lanes.{mask_l}};
-ghost use Rattle.data_url.specs.Steps.Classes.{AreOf, is_marked, looked_up};
+ghost use Rattle.data_url.specs.Steps.Classes.{AreOf, classified, is_marked};
 
 use std::simd::prelude::*;
 
@@ -88,40 +88,40 @@ pub(crate) fn repeated(row: u8x16) -> u8x64
 /// Looks up both halves of each byte of a block. Returns the bits that their entries have in common: none only where the byte is
 /// in the class.
 #[inline(always)]
-fn looked_up(others: &[u8], block: u8x64) -> u8x64
-    requires { 16 ≤ length others.now }
-    ensures { result ≡ map (looked_up others.now) block }
+fn classified(class_table: &[u8], block: u8x64) -> u8x64
+    requires { 16 ≤ length class_table.now }
+    ensures { result ≡ map (classified class_table.now) block }
 {
-    let low = repeated(row(others, 0)).swizzle_dyn_within::<16>(block & u8x64::splat(15));
+    let low = repeated(row(class_table, 0)).swizzle_dyn_within::<16>(block & u8x64::splat(15));
     let high = repeated(row(&COLUMNS, 0)).swizzle_dyn_within::<16>(block >> u8x64::splat(4));
     low & high
 }
 
 /// Returns a bit for each byte of a row, which is set where the byte may be outside a class.
 #[inline(always)]
-pub(crate) fn marks(others: &[u8], row: u8x16) -> u64
-    requires { 16 ≤ length others.now }
-    ensures { result ≡ mask_l (map (is_marked others.now) row) }
+pub(crate) fn outside(class_table: &[u8], row: u8x16) -> u64
+    requires { 16 ≤ length class_table.now }
+    ensures { result ≡ mask_l (map (is_marked class_table.now) row) }
 {
-    let found = looked_up(others, repeated(row)).extract::<0, 16>();
+    let found = classified(class_table, repeated(row)).extract::<0, 16>();
     found.simd_ne(u8x16::splat(0)).to_bitmask()
 }
 
-/// Whether no byte of a block is marked. As a test for a branch, this takes fewer instructions than `marks`.
+/// Whether no byte of a block is marked. As a test for a branch, this takes fewer instructions than `outside`.
 #[inline(always)]
-pub(crate) fn is_unmarked(others: &[u8], block: u8x64) -> bool
-    requires { 16 ≤ length others.now }
-    ensures { result ≡ list_all (λ b. not (is_marked others.now b)) block }
+pub(crate) fn is_unmarked(class_table: &[u8], block: u8x64) -> bool
+    requires { 16 ≤ length class_table.now }
+    ensures { result ≡ list_all (λ b. not (is_marked class_table.now b)) block }
 {
-    looked_up(others, block).reduce_or() == 0
+    classified(class_table, block).reduce_or() == 0
 }
 
 /// Returns how many bytes come before the first marked byte of the whole rows, or the length of these rows if there is none.
 /// All these bytes are in the class.
 #[inline(always)]
-pub(crate) fn rows_len(others: [u8; 16], bytes: &[u8]) -> usize
+pub(crate) fn rows_len(class_table: [u8; 16], bytes: &[u8]) -> usize
     ensures within { result ≤ length bytes.now }
-    ensures prefix { AreOf others bytes.now result }
+    ensures prefix { AreOf class_table bytes.now result }
 {
     let end = bytes.len().saturating_sub(ROW - 1);
     let mut at = 0;
@@ -129,8 +129,8 @@ pub(crate) fn rows_len(others: [u8; 16], bytes: &[u8]) -> usize
         let row = row(bytes, at);
         // Before the test, so that the compiler ends the loop with the test, which is faster.
         at += ROW;
-        if !is_unmarked(&others, repeated(row)) {
-            return at - ROW + marks(&others, row).trailing_zeros() as usize;
+        if !is_unmarked(&class_table, repeated(row)) {
+            return at - ROW + outside(&class_table, row).trailing_zeros() as usize;
         }
     }
     at

@@ -4,7 +4,7 @@
 
 ghost use Rattle.std.specs.Prelude.{◌≡◌, ◌≤◌, drop, length};
 ghost use Rattle.data_url.specs.{Url.{after, number_sign}, Pieces.{text_of, walk_at_start, walk_of}};
-ghost use Rattle.data_url.specs.Steps.{Chunks.{IsBodyFrom, IsBodyPrefix}, Walk.{GoesOn, Knows, KnowsAhead, Looking}};
+ghost use Rattle.data_url.specs.Steps.{Chunks.{IsBodyFrom, IsBodyPrefix}, Walk.{GivesPiece, Knows, KnowsAhead, Looking}};
 
 use super::Piece;
 use super::marks::{AtMark, Block};
@@ -46,7 +46,7 @@ impl<'a> Cursor<'a> {
             source: Source::new(text),
             block: Block {
                 base: 0,
-                seen: 0,
+                end: 0,
                 marks: 0,
             },
             place: 0,
@@ -66,7 +66,7 @@ impl<'a> Cursor<'a> {
             source: Source::new(text),
             block: Block {
                 base: place,
-                seen: place,
+                end: place,
                 marks: 0,
             },
             place,
@@ -92,7 +92,7 @@ impl<'a> Cursor<'a> {
         let is_percent = self.source.len() > 0 && self.source.look(0) == b'%';
         self.block = Block {
             base: 0,
-            seen: usize::from(is_percent),
+            end: usize::from(is_percent),
             marks: u64::from(is_percent),
         };
         let len = self.source.len();
@@ -112,7 +112,7 @@ impl<'a> Cursor<'a> {
     pub(super) fn next(&mut self, most: usize) -> Option<Piece<'a>>
         requires knows { Knows self.old }
         requires some { 1 ≤ most }
-        ensures goes { GoesOn self.old result self.new most }
+        ensures goes { GivesPiece self.old result self.new most }
         ensures knows { Knows self.new }
     {
         match self.ahead {
@@ -138,7 +138,7 @@ impl<'a> Cursor<'a> {
     fn next_stretch(&mut self, most: usize) -> Option<Piece<'a>>
         requires looking { Looking self.old.source self.old.block self.old.place 0 }
         requires some { 1 ≤ most }
-        ensures goes { GoesOn self.old result self.new most }
+        ensures goes { GivesPiece self.old result self.new most }
         ensures knows { KnowsAhead self.new self.new.ahead }
     {
         let mut from = self.place;

@@ -36,11 +36,11 @@ fn digit_code(byte: u8) -> u8
 
 impl<'a> Source<'a> {
     /// Returns the byte of the escape whose `%` is at a place, past tabs and newlines, and the place after it. If the `%` is
-    /// `followed` by two bytes or more, it is faster: whether the text ends is not tested before a digit that comes at once.
+    /// `two_follow` by two bytes or more, it is faster: whether the text ends is not tested before a digit that comes at once.
     #[inline(always)]
-    pub(super) fn escape(&mut self, place: usize, followed: bool) -> Option<(u8, usize)>
+    pub(super) fn escape(&mut self, place: usize, two_follow: bool) -> Option<(u8, usize)>
         requires within { place < length self.old.text.now }
-        requires room { IsTrue followed → place + 3 ≤ length self.old.text.now }
+        requires room { IsTrue two_follow → place + 3 ≤ length self.old.text.now }
         requires percent { slice_index self.old.text.now place ≡ percent_sign }
         ensures text { self.new.text.now ≡ self.old.text.now }
         ensures looks { self.old.looks ≤ self.new.looks }
@@ -49,8 +49,8 @@ impl<'a> Source<'a> {
             (λ found. EscapeAt self.old.text.now place found.0 found.1
             × (self.new.looks + place + 1 ≡ self.old.looks + found.1)) }
     {
-        let (high, after) = self.digit(place + 1, followed)?;
-        let (low, end) = self.digit(after, followed && after == place + 2)?;
+        let (high, after) = self.digit(place + 1, two_follow)?;
+        let (low, end) = self.digit(after, two_follow && after == place + 2)?;
         Some((high * 16 + low, end))
     }
 

@@ -80,12 +80,12 @@ pub(super) fn stops_of(bytes: u8x64, marks: u64, percents: u64) -> (u64, u64)
     ensures passed { result.0 ≡ mask_l (map is_tab_or_newline bytes) }
     ensures stops { result.1 ≡ mask_l (stops bytes) }
 {
-    let others = marks - percents;
-    if others == 0 {
+    let other_marks = marks - percents;
+    if other_marks == 0 {
         return (0, percents & LAST_TWO);
     }
     let hashes = bytes.simd_eq(u8x64::splat(b'#')).to_bitmask();
-    let passed = others - hashes;
+    let passed = other_marks - hashes;
     let near = passed >> 1 | passed >> 2;
     (passed, hashes + (percents & (near | LAST_TWO)))
 }

@@ -9,11 +9,11 @@ use super::lanes::marks_of;
 use super::source::{Source, last_marks};
 use crate::classes::lanes::BLOCK;
 
-/// The block of a text that was read last, from `base` up to `seen`, with a bit for each marked byte.
+/// The block of a text that was read last, from `base` up to `end`, with a bit for each marked byte.
 #[derive(Drop)]
 pub(super) struct Block {
     pub(super) base: usize,
-    pub(super) seen: usize,
+    pub(super) end: usize,
     pub(super) marks: u64,
 }
 
@@ -34,9 +34,9 @@ impl Block {
     #[inline(always)]
     pub(super) fn mark_from(&self, source: &Source<'_>, place: usize) -> Option<usize>
         requires looking { Looking source.now self.now place 0 }
-        requires here { place < self.now.seen }
-        ensures { MatchOption result (IsClear source.now.text.now place self.now.seen)
-            (λ mark. (mark < self.now.seen) × IsNextMark source.now.text.now place mark) }
+        requires here { place < self.now.end }
+        ensures { MatchOption result (IsClear source.now.text.now place self.now.end)
+            (λ mark. (mark < self.now.end) × IsNextMark source.now.text.now place mark) }
     {
         let marks = self.marks >> (place - self.base);
         if marks == 0 {
@@ -56,11 +56,11 @@ impl Block {
         ensures mark { IsMarkUpTo source.old.text.now from end result }
     {
         let mut place = from;
-        if place < self.seen {
+        if place < self.end {
             if let Some(mark) = self.mark_from(source, place) {
                 return mark;
             }
-            place = self.seen;
+            place = self.end;
         }
         let blocks_end = source
             .len()
@@ -70,7 +70,7 @@ impl Block {
             let bytes = source.look_bytes(place);
             *self = Block {
                 base: place,
-                seen: place + BLOCK,
+                end: place + BLOCK,
                 marks: marks_of(bytes, true),
             };
             if let Some(mark) = self.mark_from(source, place) {
@@ -84,22 +84,22 @@ impl Block {
         let rest = source.look_rest(place);
         *self = Block {
             base: place,
-            seen: place + rest.len(),
+            end: place + rest.len(),
             marks: last_marks(rest),
         };
         match self.mark_from(source, place) {
             Some(mark) => mark,
-            None => self.seen,
+            None => self.end,
         }
     }
 }
 
 impl<'a> Source<'a> {
-    /// What begins at a marked byte, or that the text ends. That is not tested if the byte is `followed` by two bytes or more.
+    /// What begins at a marked byte, or that the text ends. That is not tested if the byte is `two_follow` by two bytes or more.
     #[inline(always)]
-    pub(super) fn at_mark(&mut self, mark: usize, followed: bool) -> AtMark
+    pub(super) fn at_mark(&mut self, mark: usize, two_follow: bool) -> AtMark
         requires within { mark ≤ length self.old.text.now }
-        requires room { IsTrue followed → mark + 3 ≤ length self.old.text.now }
+        requires room { IsTrue two_follow → mark + 3 ≤ length self.old.text.now }
         requires marked { mark < length self.old.text.now
             → is_marked (slice_index self.old.text.now mark) ≡ true }
         ensures text { self.new.text.now ≡ self.old.text.now }
@@ -107,11 +107,11 @@ impl<'a> Source<'a> {
         ensures looks { self.old.looks ≤ self.new.looks }
         ensures found { IsAtMark self.old.text.now mark self.old.looks self.new.looks result }
     {
-        if !followed && mark >= self.len() {
+        if !two_follow && mark >= self.len() {
             return AtMark::End;
         }
         match self.look(mark) {
-            b'%' => match self.escape(mark, followed) {
+            b'%' => match self.escape(mark, two_follow) {
                 Some((value, end)) => AtMark::Escape(value, end),
                 None => AtMark::Stays,
             },

@@ -5,7 +5,7 @@
 ghost use Rattle.std.specs.Prelude.{◌≡◌, ◌+◌, ◌-◌, ◌++◌, ◌<◌, ◌≤◌, IfNone, IfSome, length, map, replicate};
 ghost use Rattle.std.specs.Simd.Lanes.{mask_l};
 ghost use Rattle.data_url.specs.{Pieces.{text_of}, Steps.Escapes.{IsPacked}, Steps.Window.{is_marked}};
-ghost use Rattle.data_url.specs.Steps.Walk.{IsWhole, Looking, LooksOn, MayGather, Packs};
+ghost use Rattle.data_url.specs.Steps.Walk.{IsWholeBlock, Looking, LooksOn, MayGather, Packs};
 
 use super::cursor::{Ahead, Cursor};
 use super::gather::Buffer;
@@ -31,18 +31,18 @@ impl<'a> Cursor<'a> {
     pub(super) fn look_whole(&mut self) -> u8x64
         requires looking { Looking self.old.source self.old.block self.old.place 0 }
         requires room { self.old.place + 64 ≤ length (text_of self.old) }
-        requires unseen { self.old.block.seen ≤ self.old.place }
+        requires unseen { self.old.block.end ≤ self.old.place }
         ensures looking { Looking self.new.source self.new.block self.new.place 0 }
         ensures on { LooksOn self.old.source self.new.source }
         ensures stays { (self.new.place ≡ self.old.place) × (self.new.ahead ≡ self.old.ahead) }
-        ensures whole { IsWhole self.new result }
+        ensures whole { IsWholeBlock self.new result }
     {
         let place = self.place;
         let _len = self.source.len();
         let bytes = self.source.look_bytes(place);
         self.block = Block {
             base: place,
-            seen: place + BLOCK,
+            end: place + BLOCK,
             marks: marks_of(bytes, false),
         };
         bytes
@@ -53,46 +53,46 @@ impl<'a> Cursor<'a> {
     pub(super) fn pack_whole(
         &mut self,
         bytes: u8x64,
-        room: &mut Buffer,
+        buffer: &mut Buffer,
         len: usize,
     ) -> Option<usize>
         requires may { MayGather self.old len }
-        requires whole { IsWhole self.old bytes }
+        requires whole { IsWholeBlock self.old bytes }
         requires room { len ≤ 384 }
         ensures looking { Looking self.new.source self.new.block self.new.place 0 }
         ensures ahead { self.new.ahead ≡ self.old.ahead }
-        ensures packed { IfSome result (Packs self.old self.new room.old room.new len) }
-        ensures none { IfNone result ((self.new ≡ self.old) × (room.new ≡ room.old)) }
+        ensures packed { IfSome result (Packs self.old self.new buffer.old buffer.new len) }
+        ensures none { IfNone result ((self.new ≡ self.old) × (buffer.new ≡ buffer.old)) }
     {
-        let (used, end) = pack_to_stop(bytes, self.block.marks, BLOCK, room, len)?;
+        let (used, end) = pack_to_stop(bytes, self.block.marks, BLOCK, buffer, len)?;
         self.go_on_after(used);
         Some(end)
     }
 
     /// Reads the next block, after which no whole one follows, and packs it as `pack_whole` does.
     #[inline(always)]
-    pub(super) fn pack_end(&mut self, room: &mut Buffer, len: usize) -> Option<usize>
+    pub(super) fn pack_end(&mut self, buffer: &mut Buffer, len: usize) -> Option<usize>
         requires looking { Looking self.old.source self.old.block self.old.place 0 }
         requires unknown { self.old.ahead ≡ Ahead.Unknown }
         requires some { self.old.place < length (text_of self.old) }
-        requires unseen { self.old.block.seen ≤ self.old.place }
+        requires unseen { self.old.block.end ≤ self.old.place }
         requires room { len ≤ 384 }
         ensures looking { Looking self.new.source self.new.block self.new.place 0 }
         ensures unknown { self.new.ahead ≡ Ahead.Unknown }
         ensures on { LooksOn self.old.source self.new.source }
-        ensures packed { IfSome result (Packs self.old self.new room.old room.new len) }
-        ensures none { IfNone result ((room.new ≡ room.old) × (self.new.place ≡ self.old.place)
-            × (self.new.place < self.new.block.seen)) }
+        ensures packed { IfSome result (Packs self.old self.new buffer.old buffer.new len) }
+        ensures none { IfNone result ((buffer.new ≡ buffer.old) × (self.new.place ≡ self.old.place)
+            × (self.new.place < self.new.block.end)) }
     {
         if self.source.len() - self.place >= BLOCK {
             let bytes = self.look_whole();
-            return self.pack_whole(bytes, room, len);
+            return self.pack_whole(bytes, buffer, len);
         }
         let rest = self.source.look_rest(self.place);
-        let (marks, packed) = pack_last(rest, room, len);
+        let (marks, packed) = pack_last(rest, buffer, len);
         self.block = Block {
             base: self.place,
-            seen: self.place + rest.len(),
+            end: self.place + rest.len(),
             marks,
         };
         let (used, end) = packed?;
@@ -105,7 +105,7 @@ impl<'a> Cursor<'a> {
     #[inline(always)]
     fn go_on_after(&mut self, used: usize)
         requires looking { Looking self.old.source self.old.block self.old.place 0 }
-        requires used { (12 ≤ used) × (self.old.place + used ≤ self.old.block.seen) }
+        requires used { (12 ≤ used) × (self.old.place + used ≤ self.old.block.end) }
         ensures looking { Looking self.new.source self.new.block self.new.place 0 }
         ensures place { self.new.place ≡ self.old.place + used }
         ensures source { self.new.source ≡ self.old.source }
@@ -113,11 +113,11 @@ impl<'a> Cursor<'a> {
     {
         let _len = self.source.len();
         self.place += used;
-        let left = self.block.seen - self.place;
+        let left = self.block.end - self.place;
         if left <= SHORT_REST {
             self.block = Block {
                 base: self.place,
-                seen: self.place,
+                end: self.place,
                 marks: 0,
             };
         }
@@ -133,14 +133,14 @@ fn pack_to_stop(
     bytes: u8x64,
     marks: u64,
     size: usize,
-    room: &mut Buffer,
+    buffer: &mut Buffer,
     len: usize,
 ) -> Option<(usize, usize)>
     requires marks { marks ≡ mask_l (map is_marked bytes) }
     requires size { size ≤ 64 }
     requires room { len ≤ 384 }
-    ensures none { IfNone result (room.new ≡ room.old) }
-    ensures packed { IfSome result (λ p. IsPacked bytes size room.old room.new len p.0 p.1) }
+    ensures none { IfNone result (buffer.new ≡ buffer.old) }
+    ensures packed { IfSome result (λ p. IsPacked bytes size buffer.old buffer.new len p.0 p.1) }
 {
     if marks.count_ones() < SEVERAL {
         return None;
@@ -153,21 +153,21 @@ fn pack_to_stop(
     }
     let (values, starts) = decode_escapes(bytes, percents);
     let dropped = (6 * starts + passed) | !(u64::MAX >> (BLOCK - used));
-    Some((used, pack_block(values, dropped, &mut room[..], len)))
+    Some((used, pack_block(values, dropped, &mut buffer[..], len)))
 }
 
 /// Does what `pack_to_stop` does, with the last bytes of a text, which are fewer than 64. Also returns their marks. It is not
 /// inlined, and does not see the walk, so that the walk can stay in registers.
 #[inline(never)]
-fn pack_last(rest: &[u8], room: &mut Buffer, len: usize) -> (u64, Option<(usize, usize)>)
+fn pack_last(rest: &[u8], buffer: &mut Buffer, len: usize) -> (u64, Option<(usize, usize)>)
     requires rest { length rest.now < 64 }
     requires room { len ≤ 384 }
     ensures marks { result.0 ≡ mask_l (map is_marked rest.now) }
-    ensures none { IfNone result.1 (room.new ≡ room.old) }
+    ensures none { IfNone result.1 (buffer.new ≡ buffer.old) }
     ensures packed { IfSome result.1 (λ p. IsPacked (rest.now ++ replicate (64 - length rest.now) 0)
-        (length rest.now) room.old room.new len p.0 p.1) }
+        (length rest.now) buffer.old buffer.new len p.0 p.1) }
 {
     let bytes = padded(rest);
     let marks = marks_of(bytes, false);
-    (marks, pack_to_stop(bytes, marks, rest.len(), room, len))
+    (marks, pack_to_stop(bytes, marks, rest.len(), buffer, len))
 }

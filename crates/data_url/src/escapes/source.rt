@@ -92,21 +92,28 @@ impl<'a> Source<'a> {
 
     /// Copies a stretch of at most 64 bytes into a buffer, without a look. The bytes after it in the buffer may be overwritten.
     #[inline(always)]
-    pub(super) fn copy(&self, start: usize, end: usize, room: &mut Buffer, len: usize, wide: bool)
+    pub(super) fn copy(
+        &self,
+        start: usize,
+        end: usize,
+        buffer: &mut Buffer,
+        len: usize,
+        whole_blocks: bool,
+    )
         requires forward { start ≤ end }
         requires short { end ≤ start + 64 }
         requires within { end ≤ length self.now.text.now }
-        requires wide { IsTrue wide → start + 64 ≤ length self.now.text.now }
+        requires whole_blocks { IsTrue whole_blocks → start + 64 ≤ length self.now.text.now }
         requires room { len + 64 ≤ 512 }
-        ensures { take (len + (end - start)) room.new
-            ≡ take len room.old ++ slice_range self.now.text.now start end }
+        ensures { take (len + (end - start)) buffer.new
+            ≡ take len buffer.old ++ slice_range self.now.text.now start end }
     {
         let bytes = self.text;
-        if wide {
+        if whole_blocks {
             let block = u8x64::from_slice(&bytes[start..start + BLOCK]);
-            block.copy_to_slice(&mut room[len..len + BLOCK]);
+            block.copy_to_slice(&mut buffer[len..len + BLOCK]);
         } else {
-            room[len..len + (end - start)].copy_from_slice(&bytes[start..end]);
+            buffer[len..len + (end - start)].copy_from_slice(&bytes[start..end]);
         }
     }
 }

@@ -52,7 +52,7 @@ impl<'a> Walk<'a> {
     /// shorter ones and the values of escapes, gathered in a buffer.
     pub(crate) fn next_bytes<'r>(
         &mut self,
-        room: &'r mut [u8; BUFFER_LEN],
+        buffer: &'r mut [u8; BUFFER_LEN],
         most: usize,
     ) -> Option<&'r [u8]>
     where
@@ -61,7 +61,7 @@ impl<'a> Walk<'a> {
         ensures gives { GivesBytes self.old result self.new }
         ensures few { IfSome result (λ bytes. length bytes.now ≤ most) }
     {
-        self.cursor.next_bytes(room, most)
+        self.cursor.next_bytes(buffer, most)
     }
 
     /// Returns whether the walk is known to be at the end of the body.

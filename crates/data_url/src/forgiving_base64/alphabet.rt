@@ -7,7 +7,7 @@ ghost use Rattle.std.specs.Simd.Lanes.{mask_l};
 ghost use Rattle.data_url.specs.Base64.{group_bytes, group_number, groups, is_symbol, symbol_value};
 ghost use Rattle.data_url.specs.Steps.{Groups.{is_symbol_or_space}, Lanes.{DecodesFront, number_bytes, numbers, twelves, value_of}};
 
-use crate::classes::lanes::{is_unmarked, marks, repeated, row};
+use crate::classes::lanes::{is_unmarked, outside, repeated, row};
 use std::simd::prelude::*;
 
 /// The value of each symbol, by its byte, and 64 for other bytes.
@@ -70,10 +70,10 @@ pub(crate) fn group_of(first: u8, second: u8, third: u8, fourth: u8) -> [u8; 3]
 
 /// A bit for each byte of a row, which is set if the byte is not a symbol.
 #[inline(always)]
-pub(crate) fn others(bytes: u8x16) -> u64
+pub(crate) fn non_symbols(bytes: u8x16) -> u64
     ensures { result ≡ mask_l (map (λ b. not (is_symbol b)) bytes) }
 {
-    marks(&SYMBOLS, bytes)
+    outside(&SYMBOLS, bytes)
 }
 
 /// Returns how many symbols a row begins with.
@@ -82,7 +82,7 @@ pub(crate) fn symbols_ahead(bytes: u8x16) -> usize
     ensures few { result ≤ 16 }
     ensures starts { result ≡ prefix_len is_symbol bytes }
 {
-    (others(bytes) as u16).trailing_zeros() as usize
+    (non_symbols(bytes) as u16).trailing_zeros() as usize
 }
 
 /// Whether all bytes of a block are symbols.

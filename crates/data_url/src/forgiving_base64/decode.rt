@@ -32,7 +32,7 @@ where
     F: FnMut(&[u8]) -> Result<(), E>,
 {
     ghost use Rattle.std.specs.Fn.{CalledAt};
-    ghost use Rattle.data_url.specs.{Decoder.{Feeds, Finishes, start, state_of}, Steps.Holding.{CallsOnce, EndsWithin, FeedsUnescaped, Flushes, Reads, ReadsText}};
+    ghost use Rattle.data_url.specs.{Decoder.{Feeds, Finishes, start, state_of}, Steps.Holding.{CallsOnce, EndsWithin, FeedsUnescaped, Flushes, ReadsHolding, ReadsUntilFault}};
     ghost use Rattle.data_url.specs.Steps.Parts.{HoldsLeft, IsResumed};
 
     /// Returns a decoder that has been fed nothing yet. The closure has to accept any bytes, whatever it was called
@@ -137,7 +137,7 @@ where
         requires going { (state_of self.old).failed ≡ false }
         ensures callable { F.IsAlwaysCallable (state_of self.new).closure }
         ensures read { MatchResult result
-            (λ taken. (taken ≤ length text.now) × Reads (CalledAt F.FnMut) (state_of self.old)
+            (λ taken. (taken ≤ length text.now) × ReadsHolding (CalledAt F.FnMut) (state_of self.old)
             (take taken text.now) [] (state_of self.new))
             (λ error. EndsWithin (CalledAt F.FnMut) (state_of self.old) text.now error
             (state_of self.new)) }
@@ -162,17 +162,20 @@ where
 
     /// Calls the closure with the bytes of the groups before a text's first fault. Returns the fault's place and kind, or the length.
     #[inline(always)]
-    fn read(&mut self, text: &[u8]) -> Result<(usize, Option<InvalidBase64Details>), DecodeError<E>>
+    fn feed_until_fault(
+        &mut self,
+        text: &[u8],
+    ) -> Result<(usize, Option<InvalidBase64Details>), DecodeError<E>>
         requires callable { F.IsAlwaysCallable (state_of self.old).closure }
         requires going { (state_of self.old).failed ≡ false }
         ensures callable { F.IsAlwaysCallable (state_of self.new).closure }
-        ensures read { ReadsText (CalledAt F.FnMut) (state_of self.old) text.now result
+        ensures read { ReadsUntilFault (CalledAt F.FnMut) (state_of self.old) text.now result
             (state_of self.new) }
     {
         let mut at = self.read_blocks(text)?;
         let mut groups = HeldGroups::new();
         while at < text.len() {
-            match self.state.take_some(&text[at..], &mut groups) {
+            match self.state.read_groups_or_byte(&text[at..], &mut groups) {
                 Ok(taken) => at += taken,
                 Err(details) => {
                     self.flush(groups.as_slice())?;
@@ -205,7 +208,7 @@ where
         ensures fed { Feeds (CalledAt F.FnMut) (state_of self.old) input.now result
             (state_of self.new) }
     {
-        match self.read(input)?.1 {
+        match self.feed_until_fault(input)?.1 {
             None => Ok(()),
             Some(details) => Err(self.refuse(details)),
         }
@@ -222,7 +225,7 @@ where
         ensures fed { FeedsUnescaped (CalledAt F.FnMut) (state_of self.old) part.now result
             (state_of self.new) }
     {
-        let (place, fault) = self.read(part)?;
+        let (place, fault) = self.feed_until_fault(part)?;
         let Some(details) = fault else {
             return Ok(place);
         };

@@ -6,7 +6,9 @@ ghost use Rattle.std.specs.{Char.{is_ascii_whitespace}, List.{list_all, prefix_l
 ghost use Rattle.data_url.specs.Base64.{groups, is_symbol, symbol_value};
 ghost use Rattle.data_url.specs.Steps.Groups.{IsOverGap, is_symbol_or_space};
 
-use super::alphabet::{decode_row, is_of_symbols, is_spaced, is_symbol, others, symbols_ahead};
+use super::alphabet::{
+    decode_row, is_of_symbols, is_spaced, is_symbol, non_symbols, symbols_ahead,
+};
 use crate::classes::lanes::{put, repeated, row, spliced};
 use crate::packing::pack_row;
 use std::simd::prelude::*;
@@ -34,7 +36,7 @@ pub(crate) fn spaces_after_twelve(text: &[u8], row: u8x16) -> usize
     ensures spaces { result ≡ prefix_len is_ascii_whitespace (drop 12 text.now) }
 {
     // Only byte 12 of the row is not a symbol, so a newline there is all the white space.
-    if others(row) == 1 << 12 && text[12] == b'\n' {
+    if non_symbols(row) == 1 << 12 && text[12] == b'\n' {
         return 1;
     }
     spaces_ahead(&text[12..])
@@ -78,7 +80,7 @@ pub(crate) fn pack_rows(text: &[u8], symbols: &mut [u8], enough: usize) -> (usiz
         if !is_spaced(repeated(row)) {
             break;
         }
-        have = pack_row(row, others(row) as usize, symbols, have);
+        have = pack_row(row, non_symbols(row) as usize, symbols, have);
         at += 16;
     }
     (have, at)

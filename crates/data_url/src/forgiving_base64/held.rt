@@ -20,7 +20,7 @@ pub(crate) struct HeldGroups {
 }
 
 impl HeldGroups {
-    ghost use Rattle.data_url.specs.Steps.Groups.{Fills, held_bytes};
+    ghost use Rattle.data_url.specs.Steps.Groups.{AddsGroups, held_bytes};
 
     /// Returns no groups.
     #[inline(always)]
@@ -67,10 +67,10 @@ impl HeldGroups {
     /// Adds whole groups that a text begins with, at most two if it has fewer than sixteen bytes. Of a longer text, white space is
     /// skipped, and a rest of fewer than sixteen bytes may be left. Returns how many bytes were read.
     #[inline(always)]
-    pub(crate) fn fill(&mut self, text: &[u8]) -> usize
+    pub(crate) fn decode_ahead(&mut self, text: &[u8]) -> usize
         requires room { self.old.len < 192 }
         ensures within { result ≤ length text.now }
-        ensures fills { Fills (held_bytes self.old) (take result text.now) (held_bytes self.new) }
+        ensures added { AddsGroups (held_bytes self.old) (take result text.now) (held_bytes self.new) }
     {
         if text.len() < 4 {
             return 0;
@@ -82,19 +82,19 @@ impl HeldGroups {
             self.len += 3 * groups;
             return 4 * groups;
         }
-        let taken = self.fill_rows(text);
+        let taken = self.decode_rows(text);
         if self.len >= FULL || text.len() - taken < 16 {
             return taken;
         }
-        taken + self.fill_spaced(&text[taken..])
+        taken + self.decode_spaced_rows(&text[taken..])
     }
 
     /// Adds the groups of rows of sixteen symbols, each with a gap at most, until 64 groups are held. Returns how many bytes they take.
     #[inline(never)]
-    fn fill_rows(&mut self, text: &[u8]) -> usize
+    fn decode_rows(&mut self, text: &[u8]) -> usize
         requires room { self.old.len < 192 }
         ensures within { result ≤ length text.now }
-        ensures fills { Fills (held_bytes self.old) (take result text.now) (held_bytes self.new) }
+        ensures added { AddsGroups (held_bytes self.old) (take result text.now) (held_bytes self.new) }
     {
         let rows_end = text.len().saturating_sub(15);
         let mut len = self.len;
@@ -131,10 +131,10 @@ impl HeldGroups {
 
     /// Adds the whole groups of rows of symbols and white space, until 64 groups are held. Returns how many bytes they take.
     #[inline(never)]
-    fn fill_spaced(&mut self, text: &[u8]) -> usize
+    fn decode_spaced_rows(&mut self, text: &[u8]) -> usize
         requires room { self.old.len < 192 }
         ensures within { result ≤ length text.now }
-        ensures fills { Fills (held_bytes self.old) (take result text.now) (held_bytes self.new) }
+        ensures added { AddsGroups (held_bytes self.old) (take result text.now) (held_bytes self.new) }
     {
         let mut symbols = [0; 288];
         let (have, at) = pack_rows(text, &mut symbols, (FULL - self.len) / 3 * 4);

@@ -88,7 +88,7 @@ impl LeftOver {
     /// Takes whole groups that a text begins with, or else one byte, and adds what is complete. Returns how many bytes
     /// it took.
     #[inline(always)]
-    pub(super) fn take_some(
+    pub(super) fn read_groups_or_byte(
         &mut self,
         text: &[u8],
         groups: &mut HeldGroups,
@@ -102,7 +102,7 @@ impl LeftOver {
             (left_state self.new) × (held_bytes groups.new ≡ held_bytes groups.old)) }
     {
         if self.is_between_groups() {
-            let taken = groups.fill(text);
+            let taken = groups.decode_ahead(text);
             if taken > 0 {
                 return Ok(taken);
             }

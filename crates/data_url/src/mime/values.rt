@@ -5,8 +5,8 @@ ghost use Rattle.std.specs.Prelude.{◌≡◌, ◌<◌, ◌≤◌, ◌+◌, ◌-
 ghost use Rattle.std.specs.{Char.{to_ascii_lowercase}, List.{list_all}, Option.{option_map}, Str.{chars}};
 ghost use Rattle.data_url.specs.{CodePoints.{is_quotable}, Mime.{is_token_text}, Steps.Few.{value_text}, Steps.Parsing.{unescaped, value_of}, MimeType.{code_points}};
 
-use crate::classes::lanes::{ROW, is_unmarked, marks, put, repeated, row};
-use crate::classes::{Class, ESCAPED, has, long_span};
+use crate::classes::lanes::{ROW, is_unmarked, outside, put, repeated, row};
+use crate::classes::{Class, UNESCAPED, has, long_span};
 use std::alloc::{AllocError, Global};
 
 /// A value as a slice of a text.
@@ -112,8 +112,8 @@ fn copy_rows(text: &[u8], value: &mut [u8], len: usize) -> usize
     while text.len() - copied >= ROW {
         let row = row(text, copied);
         put(value, len + copied, row);
-        if !is_unmarked(&ESCAPED, repeated(row)) {
-            return copied + marks(&ESCAPED, row).trailing_zeros() as usize;
+        if !is_unmarked(&UNESCAPED, repeated(row)) {
+            return copied + outside(&UNESCAPED, row).trailing_zeros() as usize;
         }
         copied += ROW;
     }

@@ -8,4 +8,4 @@ returns-then-left-le-SHORT_REST-clause-looking c = looking_again c.requires.look
 pub returns-else-left-le-SHORT_REST-clause-looking : goal.returns-else-left-le-SHORT_REST-clause-looking
 returns-else-left-le-SHORT_REST-clause-looking c =
     looking_on (c.args.self.now.place + c.args.used) c.requires.looking (omega arith)
-    (omega (arith, c.requires.looking.block.seen_le, c.requires.used.1))
+    (omega (arith, c.requires.looking.block.end_le, c.requires.used.1))

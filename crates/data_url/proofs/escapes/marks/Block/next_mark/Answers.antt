@@ -1,5 +1,5 @@
 use Rattle.std.proofs.Common.{ap, arith, length, length-drop, ◌∙◌}
-use Rattle.data_url.proofs.escapes.BlockMarks.{clear_then, looking_mark, looking_on, looking_rest, looking_seen}
+use Rattle.data_url.proofs.escapes.BlockMarks.{clear_then, looking_end, looking_mark, looking_on, looking_rest}
 use Rattle.data_url.proofs.escapes.BlockMarks.{looking_whole, mark_then}
 use Rattle.data_url.proofs.escapes.marks.Block.next_mark.Goals as goal
 
@@ -41,7 +41,7 @@ loop-place-preserved c =
     let here = looking_whole {s' = c.look_bytes-bytes.new.self} c.look_bytes-bytes.result i.looking i.unseen
     (omega (arith, total)) look.text look.looks look.bytes c.marks_of.ensures in
     record {
-      looking = looking_seen here (omega arith);
+      looking = looking_end here (omega arith);
       at_end = λ l m. looking_on c.args.end here (omega arith) (omega (arith, total, ap length look.text));
       on = grind arith;
       unseen = omega arith;
@@ -80,7 +80,7 @@ returns-in-None-clause-looking c =
     let i = c.loop-place.invariant in
     let look = c.look_rest-rest.ensures in
     let total = ap length i.on.text_stays in
-    looking_seen (looking_rest {s' = c.look_rest-rest.new.self} c.look_rest-rest.result.now i.looking i.unseen look.text
+    looking_end (looking_rest {s' = c.look_rest-rest.new.self} c.look_rest-rest.result.now i.looking i.unseen look.text
     (omega (arith, total)) look.bytes c.last_marks.ensures look.looks) (omega arith)
 
 pub returns-in-None-clause-at_end : goal.returns-in-None-clause-at_end
@@ -104,8 +104,8 @@ returns-in-Some-clause-at_end c = λ l m. looking_on c.args.end c.requires l (om
 pub loop-place-init : goal.loop-place-init
 loop-place-init c = elim c.if-place-self.branch [
   | goal.then-place-self+in_default w ↦ rw w.place-is (record {
-    looking = looking_seen c.requires (omega arith);
-    at_end = λ l m. looking_on c.args.end c.requires l (omega (arith, c.requires.block.seen_le));
+    looking = looking_end c.requires (omega arith);
+    at_end = λ l m. looking_on c.args.end c.requires l (omega (arith, c.requires.block.end_le));
     on = grind arith;
     unseen = omega arith;
     forward = omega arith;
