@@ -1,8 +1,11 @@
 //! Forgiving base64 (Infra Standard, forgiving-base64 decode).
 
-ghost use Rattle.std.specs.{Prelude.{◌≡◌, ◌*◌, ◌+◌, ◌++◌, ◌/◌, ◌%◌, IfErr, IfOk, IsOk, IsTrue, Some}, Fn.{CalledAt}};
+ghost use Rattle.std.specs.Prelude.{◌≡◌, ◌*◌, ◌+◌, ◌++◌, ◌/◌, ◌%◌, IfErr, IfOk, IsOk, IsTrue, Some};
+ghost use Rattle.std.specs.Fn.{CalledAt};
 ghost use Rattle.data_url.specs.{Parts.{left_over_text}, Steps.Parts.{DecodesPart, FinishesPart}};
-ghost use Rattle.data_url.specs.{Base64.{decoded, is_valid}, Steps.Whole.{DecodesText}, Errors.{IsErrorOf}};
+ghost use Rattle.data_url.specs.Base64.{decoded, is_valid};
+ghost use Rattle.data_url.specs.Steps.Whole.{DecodesText};
+ghost use Rattle.data_url.specs.Errors.{IsErrorOf};
 
 use std::alloc::{AllocError, Global};
 use std::error::Error;
@@ -209,8 +212,8 @@ pub(crate) fn max_decoded_len(len: usize) -> usize
 /// ([Infra Standard, forgiving-base64 decode](https://infra.spec.whatwg.org/#forgiving-base64-decode)). Room for the
 /// bytes is allocated once, by the length of the text.
 ///
-/// Returns `InvalidBase64` with the first fault if the text is not valid, and `OutOfMemory` if allocation fails. That is
-/// before the text is read, so a text that is not valid gives `OutOfMemory` too, if there is no room for its bytes.
+/// Returns `InvalidBase64` with the first fault if the text is not valid, and `OutOfMemory` if allocation fails. That
+/// is before the text is read, so a text that is not valid gives `OutOfMemory` too, if there is no room for its bytes.
 pub fn decode_to_vec(alloc: Global, input: &[u8]) -> Result<Vec<u8>, DecodeToVecError>
     ensures valid { IsOk result → IsTrue (is_valid input.now) }
     ensures bytes { IfOk result (λ bytes. bytes.items ≡ decoded input.now) }

@@ -2,9 +2,13 @@
 
 #![tactic(auto, using(crate::proofs::escapes::Walking::walks))]
 
-ghost use Rattle.std.specs.{Option.{option_map_or}, Prelude.{◌≡◌, ◌<◌, ◌≤◌, IfSome, length, slice_index, true}};
-ghost use Rattle.data_url.specs.{Pieces.{text_of, walk_of}, Steps.Chunks.{GivesBytes}, Steps.Window.{is_marked}};
-ghost use Rattle.data_url.specs.Steps.Walk.{Gathered, Gathering, Gathers, HasRoom, IsGathered, Knows, Looking, MayCopyBlocks, MayGather, Moves};
+ghost use Rattle.std.specs.Option.{option_map_or};
+ghost use Rattle.std.specs.Prelude.{◌≡◌, ◌<◌, ◌≤◌, IfSome, length, slice_index, true};
+ghost use Rattle.data_url.specs.Pieces.{text_of, walk_of};
+ghost use Rattle.data_url.specs.Steps.Chunks.{GivesBytes};
+ghost use Rattle.data_url.specs.Steps.Window.{is_marked};
+ghost use Rattle.data_url.specs.Steps.Walk.{Gathered, Gathering, Gathers, HasRoom, IsGathered};
+ghost use Rattle.data_url.specs.Steps.Walk.{Knows, Looking, MayCopyBlocks, MayGather, Moves};
 
 use super::Piece;
 use super::cursor::{Ahead, Cursor, ESCAPE};
@@ -23,8 +27,9 @@ const DENSE: u32 = 18;
 pub(super) type Buffer = [u8; BUFFER_LEN];
 
 impl<'a> Cursor<'a> {
-    /// The next bytes, at most a number of them: a long stretch, or shorter ones and the values of escapes, gathered in a buffer if
-    /// all that it holds, or the rest of the text, is not more. None at the end of the body.
+    /// Returns the next bytes, at most `most` of them, or None if the body has ended: a long stretch of the text as it
+    /// is, or shorter ones and the values of escapes, gathered in a buffer. Nothing is gathered if `most` is less than
+    /// what the buffer holds and less than what is left of the text.
     #[inline(always)]
     pub(super) fn next_bytes<'r>(&mut self, buffer: &'r mut Buffer, most: usize) -> Option<&'r [u8]>
     where
@@ -49,8 +54,8 @@ impl<'a> Cursor<'a> {
         }
     }
 
-    /// Does what `gather` does, if at most a number of bytes can be gathered, and otherwise nothing. The cursor is moved out and
-    /// back, so that it can stay in registers.
+    /// Does what `gather` does if that cannot gather more than `most` bytes, and otherwise nothing. This function is
+    /// not inlined. It works on a local copy of the cursor, so that the compiler can keep that in registers.
     #[inline(never)]
     fn gather_within(&mut self, buffer: &mut Buffer, most: usize) -> usize
         requires { Knows self.old }
@@ -67,8 +72,8 @@ impl<'a> Cursor<'a> {
         len
     }
 
-    /// Gathers the next short stretches and the values of escapes in a buffer, until it is full, the body ends or a long stretch
-    /// begins. Returns how many bytes are gathered.
+    /// Gathers the next short stretches and the values of escapes in a buffer, until it is full, the body ends or a
+    /// long stretch begins. Returns how many bytes are gathered.
     #[inline(always)]
     fn gather(&mut self, buffer: &mut Buffer) -> usize
         requires { Knows self.old }
@@ -93,8 +98,9 @@ impl<'a> Cursor<'a> {
         len
     }
 
-    /// Gathers the next block, or what is left of the last one, after the bytes that were gathered before. Returns how many
-    /// bytes are gathered then, or None if the body ends, a long stretch begins or there is no room for two blocks.
+    /// Gathers the next block, or what is left of the last one, after the bytes that were gathered before. Returns how
+    /// many bytes are gathered then, or None if the body ends, a long stretch begins or there is no room for two
+    /// blocks.
     #[inline(always)]
     fn gather_more(&mut self, buffer: &mut Buffer, len: usize) -> Option<usize>
         requires gathering { Gathering self.old }
@@ -139,8 +145,9 @@ impl<'a> Cursor<'a> {
         })
     }
 
-    /// Gathers the rest of the block that was read, after the bytes that were gathered before. If the block is `whole_blocks`, another one
-    /// follows it, and 64 bytes are copied at a time. Otherwise escapes that follow one another are gathered without a look for marks.
+    /// Gathers the rest of the block that was read last, after the bytes that were gathered before. `whole_blocks` says
+    /// that 64 bytes or more follow the block in the text. Then 64 bytes are copied at a time. Otherwise, escapes that
+    /// follow one another are gathered without a search for marks.
     #[inline(always)]
     fn gather_block(&mut self, buffer: &mut Buffer, len: usize, whole_blocks: bool) -> usize
         requires may { MayGather self.old len }
@@ -169,7 +176,8 @@ impl<'a> Cursor<'a> {
         len
     }
 
-    /// Gathers what begins at the mark at the place. Returns how many bytes are gathered then, and whether the body ends.
+    /// Gathers what begins at the place, where a mark is. Returns how many bytes are gathered then, and whether the
+    /// body ends.
     #[inline(always)]
     fn gather_mark(&mut self, buffer: &mut Buffer, len: usize, whole_blocks: bool) -> (usize, bool)
         requires may { MayGather self.old len }

@@ -2,8 +2,11 @@
 
 #![tactic(auto, using(crate::proofs::escapes::BlockMarks::mark_places))]
 
-ghost use Rattle.std.specs.Prelude.{IsTrue, ◌≡◌, ◌+◌, ◌^◌, ◌<◌, ◌≤◌, MatchOption, length, slice_index, true};
-ghost use Rattle.data_url.specs.Steps.{Walk.{IsAtMark, IsClear, IsMarkUpTo, IsNextMark, Looking, LooksOn}, Window.{is_marked}};
+ghost use Rattle.std.specs.Prelude.{◌≡◌, ◌+◌, ◌^◌, ◌<◌, ◌≤◌};
+ghost use Rattle.std.specs.Prelude.{IsTrue, MatchOption, length, slice_index, true};
+ghost use Rattle.data_url.specs.Steps.Walk.{IsAtMark, IsClear, IsMarkUpTo};
+ghost use Rattle.data_url.specs.Steps.Walk.{IsNextMark, Looking, LooksOn};
+ghost use Rattle.data_url.specs.Steps.Window.{is_marked};
 
 use super::lanes::marks_of;
 use super::source::{Source, last_marks};
@@ -30,7 +33,7 @@ pub(super) enum AtMark {
 }
 
 impl Block {
-    /// The place of the first marked byte of the block from a place on.
+    /// Returns the place of the first marked byte of the block from a place on, or None if there is none.
     #[inline(always)]
     pub(super) fn mark_from(&self, source: &Source<'_>, place: usize) -> Option<usize>
         requires looking { Looking source.now self.now place 0 }
@@ -45,8 +48,9 @@ impl Block {
         Some(place + marks.trailing_zeros() as usize)
     }
 
-    /// The place of the first marked byte from a place on, or the end of the text. If there is none up to an end, the bytes after
-    /// that are not looked for: a place after it is returned, before which no byte is marked.
+    /// Returns the place of the first marked byte from a place on, or the length of the text if there is none. The
+    /// search goes on only up to `end`. If it finds none there, it returns a place after `end`, before which no byte is
+    /// marked.
     #[inline(always)]
     pub(super) fn next_mark(&mut self, source: &mut Source<'_>, from: usize, end: usize) -> usize
         requires { Looking source.old self.old from 0 }
@@ -95,7 +99,8 @@ impl Block {
 }
 
 impl<'a> Source<'a> {
-    /// What begins at a marked byte, or that the text ends. That is not tested if the byte is `two_follow` by two bytes or more.
+    /// Returns what begins at a marked byte, or that the text ends there. `two_follow` says that at least two bytes
+    /// follow the marked byte. Then the end of the text is not tested for.
     #[inline(always)]
     pub(super) fn at_mark(&mut self, mark: usize, two_follow: bool) -> AtMark
         requires within { mark ≤ length self.old.text.now }

@@ -2,9 +2,12 @@
 
 #![tactic(auto, using(crate::proofs::escapes::Walking::walks))]
 
-ghost use Rattle.std.specs.Prelude.{◌≡◌, ◌+◌, ◌-◌, ◌++◌, ◌<◌, ◌≤◌, IfNone, IfSome, length, map, replicate};
+ghost use Rattle.std.specs.Prelude.{◌≡◌, ◌+◌, ◌-◌, ◌++◌, ◌<◌, ◌≤◌};
+ghost use Rattle.std.specs.Prelude.{IfNone, IfSome, length, map, replicate};
 ghost use Rattle.std.specs.Simd.Lanes.{mask_l};
-ghost use Rattle.data_url.specs.{Pieces.{text_of}, Steps.Escapes.{IsPacked}, Steps.Window.{is_marked}};
+ghost use Rattle.data_url.specs.Pieces.{text_of};
+ghost use Rattle.data_url.specs.Steps.Escapes.{IsPacked};
+ghost use Rattle.data_url.specs.Steps.Window.{is_marked};
 ghost use Rattle.data_url.specs.Steps.Walk.{IsWholeBlock, Looking, LooksOn, MayGather, Packs};
 
 use super::cursor::{Ahead, Cursor};
@@ -19,14 +22,16 @@ use std::simd::prelude::*;
 /// With this many marks or more in a block, it is faster to decode its escapes in lanes than one by one.
 pub(super) const SEVERAL: u32 = 4;
 
-/// With fewer bytes before the first stop of a block, or the end of the text, escapes are decoded one by one: four have twelve.
+/// If fewer bytes than these come before the first stop of a block, or before the end of the text, escapes are decoded
+/// one by one. Twelve bytes are four escapes.
 const FEW: usize = 12;
 
-/// A rest of at most this many bytes of a block is read again with the next block: an escape may begin there that goes on.
+/// If at most this many bytes are left of a block, they are read again with the next block, since an escape may begin
+/// in them that goes on after the block.
 const SHORT_REST: usize = 2;
 
 impl<'a> Cursor<'a> {
-    /// Reads the next block, which is a whole one. Returns its bytes.
+    /// Reads the next block, which has 64 bytes. Returns its bytes.
     #[inline(always)]
     pub(super) fn look_whole(&mut self) -> u8x64
         requires looking { Looking self.old.source self.old.block self.old.place 0 }
@@ -48,7 +53,8 @@ impl<'a> Cursor<'a> {
         bytes
     }
 
-    /// Packs the block up to its first stop. Returns how many bytes are gathered then, or None if it packs nothing.
+    /// Packs the block that was read last up to its first stop. Returns how many bytes are gathered then, or None if
+    /// nothing is packed.
     #[inline(always)]
     pub(super) fn pack_whole(
         &mut self,
@@ -69,7 +75,7 @@ impl<'a> Cursor<'a> {
         Some(end)
     }
 
-    /// Reads the next block, after which no whole one follows, and packs it as `pack_whole` does.
+    /// Reads the next block, after which fewer than 64 bytes follow, and packs it as `pack_whole` does.
     #[inline(always)]
     pub(super) fn pack_end(&mut self, buffer: &mut Buffer, len: usize) -> Option<usize>
         requires looking { Looking self.old.source self.old.block self.old.place 0 }
@@ -100,8 +106,8 @@ impl<'a> Cursor<'a> {
         Some(end)
     }
 
-    /// Goes on after the first `used` bytes of the block. If only a short rest is left, it is read again with the next block. The
-    /// bound on looks allows that for as many bytes as `used`.
+    /// Goes on after the first `used` bytes of the block. If only a short rest of the block is left, it is read again
+    /// with the next block. The bound on looks allows that, since the rest has no more than `used` bytes.
     #[inline(always)]
     fn go_on_after(&mut self, used: usize)
         requires looking { Looking self.old.source self.old.block self.old.place 0 }
@@ -124,9 +130,10 @@ impl<'a> Cursor<'a> {
     }
 }
 
-/// Packs the first `size` bytes of a block up to its first stop, after `len` bytes: the values of its escapes, and the other bytes
-/// but tabs and newlines. Returns how many come before the stop, and how many bytes are gathered then. Returns None, and packs
-/// nothing, if the block has few marks or only few bytes come before the stop.
+/// Packs the first `size` bytes of a block up to its first stop, after the `len` bytes that were gathered before: the
+/// values of its escapes, and its other bytes without tabs and newlines. Returns how many bytes of the block were read
+/// for that, and how many bytes are gathered then. Returns None, and packs nothing, if the block has few marks or only
+/// few bytes come before the stop.
 #[inline(always)]
 #[tactic(auto, using(crate::proofs::escapes::StopBits::stop_bits))]
 fn pack_to_stop(
@@ -156,8 +163,8 @@ fn pack_to_stop(
     Some((used, pack_block(values, dropped, &mut buffer[..], len)))
 }
 
-/// Does what `pack_to_stop` does, with the last bytes of a text, which are fewer than 64. Also returns their marks. It is not
-/// inlined, and does not see the walk, so that the walk can stay in registers.
+/// Does what `pack_to_stop` does, with the last bytes of a text, which are fewer than 64. Also returns their marks.
+/// This function is not inlined. It gets no reference to the walk, so that the compiler can keep the walk in registers.
 #[inline(never)]
 fn pack_last(rest: &[u8], buffer: &mut Buffer, len: usize) -> (u64, Option<(usize, usize)>)
     requires rest { length rest.now < 64 }

@@ -2,9 +2,14 @@
 
 #![tactic(auto, using(crate::proofs::escapes::Walking::sources))]
 
-ghost use Rattle.std.specs.Prelude.{◌≡◌, IsTrue, ◌+◌, ◌-◌, ◌^◌, ◌++◌, ◌<◌, ◌≤◌, drop, length, map, min, replicate, slice_index, slice_range, take};
+ghost use Rattle.std.specs.Prelude.{◌≡◌, ◌+◌, ◌-◌, ◌^◌, ◌++◌, ◌<◌, ◌≤◌};
+ghost use Rattle.std.specs.Prelude.{IsTrue};
+ghost use Rattle.std.specs.Prelude.{drop, length, map, min};
+ghost use Rattle.std.specs.Prelude.{replicate, slice_index, slice_range, take};
 ghost use Rattle.std.specs.{Option.{option_map}, Simd.Lanes.{mask_l}};
-ghost use Rattle.data_url.specs.Steps.{Tail.{IsBodyEnd}, Walk.{IsBlock, Looking}, Window.{is_marked}};
+ghost use Rattle.data_url.specs.Steps.Tail.{IsBodyEnd};
+ghost use Rattle.data_url.specs.Steps.Walk.{IsBlock, Looking};
+ghost use Rattle.data_url.specs.Steps.Window.{is_marked};
 ghost use Rattle.data_url.specs.Url.{after, number_sign};
 
 use super::gather::Buffer;
@@ -22,7 +27,7 @@ pub(super) struct Source<'a> {
 }
 
 impl<'a> Source<'a> {
-    /// A text of which no byte was examined yet.
+    /// Returns the text, of which no byte was examined yet.
     #[inline(always)]
     pub(super) fn new(text: &'a [u8]) -> Self
         ensures text { result.text.now ≡ text.entry.now }
@@ -34,7 +39,7 @@ impl<'a> Source<'a> {
         }
     }
 
-    /// The number of its bytes.
+    /// Returns how many bytes the text has.
     #[inline(always)]
     pub(super) fn len(&self) -> usize
         ensures { result ≡ length self.now.text.now }
@@ -42,7 +47,7 @@ impl<'a> Source<'a> {
         self.text.len()
     }
 
-    /// The byte at a place, which counts as one look.
+    /// Returns the byte at a place. This counts as one look.
     #[inline(always)]
     pub(super) fn look(&mut self, place: usize) -> u8
         requires { place < length self.old.text.now }
@@ -90,7 +95,9 @@ impl<'a> Source<'a> {
         &self.text[start..end]
     }
 
-    /// Copies a stretch of at most 64 bytes into a buffer, without a look. The bytes after it in the buffer may be overwritten.
+    /// Copies a stretch of at most 64 bytes into a buffer, without a look. The bytes after it in the buffer may be
+    /// overwritten. `whole_blocks` says that the text has 64 bytes from the start of the stretch on. Then 64 bytes are
+    /// copied, which is faster.
     #[inline(always)]
     pub(super) fn copy(
         &self,

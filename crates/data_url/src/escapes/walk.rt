@@ -2,7 +2,8 @@
 
 ghost use Rattle.std.specs.Prelude.{◌≡◌, ◌-◌, ◌≤◌, IfSome, IsTrue, [], drop, length};
 ghost use Rattle.data_url.specs.{Pieces.{walk_at_start}, Url.{after, number_sign}};
-ghost use Rattle.data_url.specs.Steps.{Chunks.{GivesBytes, IsBodyFrom, IsBodyPrefix}, Tail.{IsBodyEnd}};
+ghost use Rattle.data_url.specs.Steps.Chunks.{GivesBytes, IsBodyFrom, IsBodyPrefix};
+ghost use Rattle.data_url.specs.Steps.Tail.{IsBodyEnd};
 
 use super::cursor::{Ahead, Cursor};
 use super::gather::BUFFER_LEN;
@@ -25,8 +26,8 @@ impl<'a> Model for Walk<'a> {
 }
 
 impl<'a> Walk<'a> {
-    /// Returns the bytes of a text before its first mark, at most `most` of them, and the walk after them. They are bytes of
-    /// the body.
+    /// Returns the bytes of a text before its first mark, at most `most` of them, and the walk after them. They are
+    /// bytes of the body.
     #[inline(always)]
     pub(crate) fn after_prefix(text: &'a [u8], most: usize) -> (&'a [u8], Self)
         ensures prefix { IsBodyPrefix text.entry.now result.0.now result.1 }
@@ -48,8 +49,8 @@ impl<'a> Walk<'a> {
         }
     }
 
-    /// Returns the next bytes, at most a number of them, or None if the body has ended: a long stretch of the text as it is, or
-    /// shorter ones and the values of escapes, gathered in a buffer.
+    /// Returns the next bytes, at most a number of them, or None if the body has ended: a long stretch of the text as
+    /// it is, or shorter ones and the values of escapes, gathered in a buffer.
     pub(crate) fn next_bytes<'r>(
         &mut self,
         buffer: &'r mut [u8; BUFFER_LEN],

@@ -6,7 +6,8 @@ use super::alphabet::{decode_row, is_of_symbols, symbols_ahead};
 use super::gaps::{before_partial, decode_unit, pack_rows, row_over_gap, spaces_after_twelve};
 use crate::classes::lanes::{put, repeated, row, short_row};
 
-/// How many bytes of groups are held before the closure is called. With 16 groups, lines of 76 symbols take a fifth longer.
+/// How many bytes are held before the closure is called: those of 64 groups. If it were called after 16 groups,
+/// decoding lines of 76 symbols would take a fifth longer.
 pub(crate) const FULL: usize = 192;
 
 /// The bytes of up to 64 groups, and of up to three groups of the row that was added last.
@@ -64,8 +65,9 @@ impl HeldGroups {
         self.len += 3;
     }
 
-    /// Adds whole groups that a text begins with, at most two if it has fewer than sixteen bytes. Of a longer text, white space is
-    /// skipped, and a rest of fewer than sixteen bytes may be left. Returns how many bytes were read.
+    /// Decodes whole groups that a text begins with, and adds their bytes. In a text of sixteen bytes or more, white
+    /// space is skipped, and the last bytes, fewer than sixteen, may be left. Of a shorter text, at most two groups are
+    /// decoded, which come before its first byte that is no symbol. Returns how many bytes of the text were decoded.
     #[inline(always)]
     pub(crate) fn decode_ahead(&mut self, text: &[u8]) -> usize
         requires room { self.old.len < 192 }
@@ -89,7 +91,8 @@ impl HeldGroups {
         taken + self.decode_spaced_rows(&text[taken..])
     }
 
-    /// Adds the groups of rows of sixteen symbols, each with a gap at most, until 64 groups are held. Returns how many bytes they take.
+    /// Decodes rows of sixteen symbols, which may each have one gap, until 64 groups are held, and adds their bytes.
+    /// Returns how many bytes of the text the rows take.
     #[inline(never)]
     fn decode_rows(&mut self, text: &[u8]) -> usize
         requires room { self.old.len < 192 }
@@ -98,7 +101,8 @@ impl HeldGroups {
     {
         let rows_end = text.len().saturating_sub(15);
         let mut len = self.len;
-        // One byte before the place where 64 groups are held: 85 / 64 is a little less than 4 / 3.
+        // While the place is before `end`, fewer than 64 groups are held. The bytes that are missing have 4 / 3 as many
+        // symbols, and 85 / 64 is a little less than 4 / 3.
         let mut end = rows_end.min((FULL - len) * 85 / 64);
         let mut at = 0;
         while at < end {
@@ -129,7 +133,8 @@ impl HeldGroups {
         at
     }
 
-    /// Adds the whole groups of rows of symbols and white space, until 64 groups are held. Returns how many bytes they take.
+    /// Decodes rows of symbols with white space anywhere, until 64 groups are held, and adds the bytes of their whole
+    /// groups. Returns how many bytes of the text these groups take.
     #[inline(never)]
     fn decode_spaced_rows(&mut self, text: &[u8]) -> usize
         requires room { self.old.len < 192 }

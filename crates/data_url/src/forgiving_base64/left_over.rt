@@ -1,6 +1,7 @@
 //! What a text of base64 leaves over for the next part (Infra Standard, forgiving-base64 decode).
 
-ghost use Rattle.std.specs.Prelude.{◌≡◌, ◌<◌, ◌≤◌, IsTrue, MatchOption, MatchResult, [], false, length};
+ghost use Rattle.std.specs.Prelude.{◌≡◌, ◌<◌, ◌≤◌, []};
+ghost use Rattle.std.specs.Prelude.{IsTrue, MatchOption, MatchResult, false, length};
 ghost use Rattle.std.specs.Prelude.{slice_index, take, true};
 ghost use Rattle.std.specs.List.{list_all};
 ghost use Rattle.data_url.specs.Base64.{is_symbol};
@@ -27,7 +28,8 @@ pub struct LeftOver {
 
 impl LeftOver {
     ghost use Rattle.data_url.specs.Parts.{HasParts, is_left_over, left_over_text};
-    ghost use Rattle.data_url.specs.Steps.{Groups.{held_bytes}, Holding.{Gains, IsBetweenGroups, Refuses, left_state}};
+    ghost use Rattle.data_url.specs.Steps.Groups.{held_bytes};
+    ghost use Rattle.data_url.specs.Steps.Holding.{Gains, IsBetweenGroups, Refuses, left_state};
 
     /// Returns that nothing is left over, as at the start of a text.
     pub fn new() -> LeftOver
@@ -85,8 +87,9 @@ impl LeftOver {
         self.pending == 0 && self.padding == 0
     }
 
-    /// Takes whole groups that a text begins with, or else one byte, and adds what is complete. Returns how many bytes
-    /// it took.
+    /// Reads whole groups that a text begins with, or one byte if it begins with none or if something is left over of
+    /// the text before. Adds the bytes of the groups that are complete then. Returns how many bytes of the text were
+    /// read, or the kind of the fault if the byte is one.
     #[inline(always)]
     pub(super) fn read_groups_or_byte(
         &mut self,

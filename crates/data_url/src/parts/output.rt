@@ -71,8 +71,8 @@ fn write_plain(tail: &[u8], output: &mut [u8]) -> (usize, Result<Stop, InvalidBa
     (len, Ok(Stop::Paused(walk.place())))
 }
 
-/// Decodes the next bytes of a body of base64 into an output, after what is left over. An output of fewer than two bytes gets nothing, since
-/// the last bytes, of which there are up to two, have to fit.
+/// Decodes the next bytes of a body of base64 into an output, after what is left over. An output of fewer than two
+/// bytes gets nothing, since the last bytes, of which there are up to two, have to fit.
 fn write_base64(
     left_over: &mut LeftOver,
     tail: &[u8],
