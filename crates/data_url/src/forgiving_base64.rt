@@ -17,6 +17,7 @@ mod decode;
 mod gaps;
 mod held;
 mod left_over;
+mod rows;
 
 pub use decode::Decoder;
 pub use left_over::LeftOver;
