@@ -231,6 +231,9 @@ mark_whole {text} {from} {end} {mark} m e = record {
   marked = λ l. m.marked (omega arith) l;
 }
 
+-- the lemmas for `padded` and `last_marks`
+pub ruleset padding = (marks_padded, padded_is)
+
 -- the lemmas for `next_mark` and `at_mark`
 pub ruleset mark_places = (
   paid_percent,

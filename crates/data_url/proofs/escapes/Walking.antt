@@ -19,7 +19,7 @@ use Rattle.data_url.specs.{declared.escapes.Piece.TheVariants.{Byte, Slice}, dec
 use Rattle.data_url.specs.declared.escapes.cursor.Ahead.TheVariants.{AfterEscape, End, Escape, Unknown}
 use Rattle.data_url.specs.{declared.escapes.cursor.Cursor.{Cursor}, declared.escapes.marks.Block.{Block}}
 use Rattle.data_url.specs.declared.escapes.source.Source.{Source}
-use Rattle.data_url.proofs.escapes.BlockMarks.{copied_block, looking_on, marks_padded, padded_is}
+use Rattle.data_url.proofs.escapes.BlockMarks.{copied_block, looking_on, marks_padded}
 use Rattle.data_url.proofs.escapes.Reading.{spells_byte, spells_passed, body_shorter, ends_empty, paid_le, paid_on}
 use Rattle.data_url.proofs.escapes.Reading.{percent_nil, spells_clear, spells_escape, spells_none, spells_then}
 use Rattle.data_url.proofs.{percent.Encoding.{decoded_escape}, runs.Runs.{none_or_some}, texts.Bytes.{after_same}}
@@ -332,7 +332,7 @@ pub ruleset gathering = (gathers_byte, gathers_nothing, gathers_then, gathers_es
 pub ruleset walks = (stretches, gathering, marks_padded, spells_none, spells_then)
 
 -- the lemmas for `Source`
-pub ruleset sources = (copied_block, marks_padded, padded_is, hash_at, drop_all, IsCharBoundary-after_ascii)
+pub ruleset sources = (copied_block, hash_at, drop_all, IsCharBoundary-after_ascii)
 
 -- a walk is within its text
 placed : (c : Cursor) (a : Ahead) → KnowsAhead c a → c.place ≤ length (text_of c)

@@ -1,4 +1,4 @@
--- Symbols in vectors, item by item. For `alphabet.rt`, `gaps.rt`, `left_over.rt` and `classes/lanes.rt`.
+-- Symbols in vectors, item by item. For `alphabet.rt`, `gaps.rt`, `rows.rt` and `classes/lanes.rt`.
 use Rattle.std.proofs.Common.{List, [], ◌∷◌, ◌++◌, map, ◌≡◌, ℕ, ◌<◌, ltb, true, cond, eqb, get_or, length, take, Fits}
 use Rattle.std.proofs.Common.{w8, ap, ◌%◌, Bool, not, refl, ◌∙◌, ap₂, arith, suc, zero, ◌&&◌, bit_or}
 use Rattle.std.proofs.lemmas.Bool.{agree_below_at, and_parts, eqb-true, ltb-true, cases_eq, ne_eqb}

@@ -1,12 +1,13 @@
 //! Blocks of 64 bytes in lanes: finds the marked bytes of a text, which its body does not hold as they are, decodes
 //! escapes, and finds where that has to stop.
 
-ghost use Rattle.std.specs.{Prelude.{◌≡◌, ◌==◌, map}, Simd.Lanes.{mask_l}};
+ghost use Rattle.std.specs.Prelude.{◌≡◌, ◌==◌, ◌++◌, ◌-◌, ◌<◌, length, map, replicate};
+ghost use Rattle.std.specs.Simd.Lanes.{mask_l};
 ghost use Rattle.data_url.specs.Steps.Escapes.{escape_starts, place_values, stops};
 ghost use Rattle.data_url.specs.Steps.Window.{is_marked};
 ghost use Rattle.data_url.specs.Url.{is_tab_or_newline, percent_sign};
 
-use crate::classes::lanes::{repeated, row};
+use crate::classes::lanes::{BLOCK, repeated, row};
 use std::simd::prelude::*;
 
 /// For each low half of a byte, the marked byte that has this low half. If there is none, the entry has another low
@@ -27,6 +28,28 @@ pub(super) fn marks_of(bytes: u8x64, sparse: bool) -> u64
         .swizzle_dyn_within::<16>(bytes & u8x64::splat(15))
         .simd_eq(bytes)
         .to_bitmask()
+}
+
+/// Returns fewer than 64 bytes, and then zeros.
+#[inline(always)]
+#[tactic(auto, using(crate::proofs::escapes::BlockMarks::padding))]
+pub(super) fn padded(rest: &[u8]) -> u8x64
+    requires { length rest.now < 64 }
+    ensures { result ≡ rest.now ++ replicate (64 - length rest.now) 0 }
+{
+    let mut block = [0; BLOCK];
+    block[..rest.len()].copy_from_slice(rest);
+    u8x64::from_array(block)
+}
+
+/// Returns the marks of fewer than 64 bytes.
+#[inline(never)]
+#[tactic(auto, using(crate::proofs::escapes::BlockMarks::padding))]
+pub(super) fn last_marks(rest: &[u8]) -> u64
+    requires { length rest.now < 64 }
+    ensures { result ≡ mask_l (map is_marked rest.now) }
+{
+    marks_of(padded(rest), false)
 }
 
 /// For each place of a block, the next one.

@@ -8,8 +8,8 @@ ghost use Rattle.data_url.specs.Steps.Walk.{IsAtMark, IsClear, IsMarkUpTo};
 ghost use Rattle.data_url.specs.Steps.Walk.{IsNextMark, Looking, LooksOn};
 ghost use Rattle.data_url.specs.Steps.Window.{is_marked};
 
-use super::lanes::marks_of;
-use super::source::{Source, last_marks};
+use super::lanes::{last_marks, marks_of};
+use super::source::Source;
 use crate::classes::lanes::BLOCK;
 
 /// The block of a text that was read last, from `base` up to `end`, with a bit for each marked byte.

@@ -12,9 +12,8 @@ ghost use Rattle.data_url.specs.Steps.Walk.{IsWholeBlock, Looking, LooksOn, MayG
 
 use super::cursor::{Ahead, Cursor};
 use super::gather::Buffer;
-use super::lanes::{decode_escapes, marks_of, stops_of};
+use super::lanes::{decode_escapes, marks_of, padded, stops_of};
 use super::marks::Block;
-use super::source::padded;
 use crate::classes::lanes::BLOCK;
 use crate::packing::pack_block;
 use std::simd::prelude::*;

@@ -2,20 +2,14 @@
 
 #![tactic(auto, using(crate::proofs::escapes::Walking::sources))]
 
-ghost use Rattle.std.specs.Prelude.{◌≡◌, ◌+◌, ◌-◌, ◌^◌, ◌++◌, ◌<◌, ◌≤◌};
-ghost use Rattle.std.specs.Prelude.{IsTrue};
-ghost use Rattle.std.specs.Prelude.{drop, length, map, min};
-ghost use Rattle.std.specs.Prelude.{replicate, slice_index, slice_range, take};
-ghost use Rattle.std.specs.{Option.{option_map}, Simd.Lanes.{mask_l}};
+ghost use Rattle.std.specs.Prelude.{◌≡◌, ◌+◌, ◌-◌, ◌^◌, ◌++◌, ◌<◌, ◌≤◌, IsTrue};
+ghost use Rattle.std.specs.Prelude.{drop, length, slice_index, slice_range, take};
+ghost use Rattle.std.specs.Option.{option_map};
 ghost use Rattle.data_url.specs.Steps.Tail.{IsBodyEnd};
-ghost use Rattle.data_url.specs.Steps.Walk.{IsBlock, Looking};
-ghost use Rattle.data_url.specs.Steps.Window.{is_marked};
 ghost use Rattle.data_url.specs.Url.{after, number_sign};
 
 use super::gather::Buffer;
-use super::lanes::marks_of;
 use super::looks::Looks;
-use super::marks::Block;
 use crate::classes::lanes::BLOCK;
 use std::simd::prelude::*;
 
@@ -135,24 +129,4 @@ pub(crate) fn fragment_at(text: &str, place: usize) -> Option<&str>
         return None;
     }
     Some(&text[place + 1..])
-}
-
-/// Returns the marks of fewer than 64 bytes.
-#[inline(never)]
-pub(super) fn last_marks(rest: &[u8]) -> u64
-    requires { length rest.now < 64 }
-    ensures { result ≡ mask_l (map is_marked rest.now) }
-{
-    marks_of(padded(rest), false)
-}
-
-/// Returns fewer than 64 bytes, and then zeros.
-#[inline(always)]
-pub(super) fn padded(rest: &[u8]) -> u8x64
-    requires { length rest.now < 64 }
-    ensures { result ≡ rest.now ++ replicate (64 - length rest.now) 0 }
-{
-    let mut block = [0; BLOCK];
-    block[..rest.len()].copy_from_slice(rest);
-    u8x64::from_array(block)
 }
