@@ -155,27 +155,28 @@ looking_read {s} {s'} {b} {place} {end} {marks} bytes k unseen t sized within sh
     }
 
 -- when the whole block at an index is read, the walk can go on there
-pub looking_whole : {s s' : Source} {b : Block} {place marks : ℕ} (bytes : List ℕ) → Looking s b place 0
+pub looking_whole : {s s' : Source} {b b' : Block} {place marks : ℕ} (bytes : List ℕ) → Looking s b place 0
     → b.end ≤ place → place + 64 ≤ length s.text.now → s'.text.now ≡ s.text.now → s'.looks ≡ s.looks + 64
     → bytes ≡ take 64 (drop place s.text.now) → marks ≡ mask_l (map is_marked bytes)
-    → Looking s' (record { base = place; end = place + 64; marks = marks }) place 0
-looking_whole {s} {place = place} bytes k unseen within t l e m =
+    → b' ≡ record { base = place; end = place + 64; marks = marks } → Looking s' b' place 0
+looking_whole {s} {place = place} bytes k unseen within t l e m is =
     let rest = drop place s.text.now in
     let long : length bytes ≡ 64 =
     ap length e ∙ length-take-le 64 rest (omega (arith, within, length-drop place s.text.now)) in
-    looking_read bytes k unseen t (omega (arith, long)) within (omega arith) (omega (arith, l))
-    (e ∙ ap (λ n. take n rest) (sym long)) m
+    rw is (looking_read bytes k unseen t (omega (arith, long)) within (omega arith) (omega (arith, l))
+    (e ∙ ap (λ n. take n rest) (sym long)) m)
 
 -- when the rest of the text from an index on is read, which is short, the walk can go on there
-pub looking_rest : {s s' : Source} {b : Block} {place marks : ℕ} (rest : List ℕ) → Looking s b place 0 → b.end ≤ place
+pub looking_rest : {s s' : Source} {b b' : Block} {place marks : ℕ} (rest : List ℕ) → Looking s b place 0
+    → b.end ≤ place
     → s'.text.now ≡ s.text.now → length s.text.now < place + 64 → rest ≡ drop place s.text.now
     → marks ≡ mask_l (map is_marked rest) → s'.looks + place ≡ s.looks + length s.text.now
-    → Looking s' (record { base = place; end = place + length rest; marks = marks }) place 0
-looking_rest {s} {place = place} rest k unseen t few e m n =
+    → b' ≡ record { base = place; end = place + length rest; marks = marks } → Looking s' b' place 0
+looking_rest {s} {place = place} rest k unseen t few e m n is =
     let long : length rest ≡ length s.text.now - place = ap length e ∙ length-drop place s.text.now in
-    looking_read rest k unseen t refl (omega (arith, long, k.within)) (omega (arith, long, few))
+    rw is (looking_read rest k unseen t refl (omega (arith, long, k.within)) (omega (arith, long, few))
     (omega (arith, n, long, k.within))
-    (e ∙ sym (take_all (length rest) (drop place s.text.now) (omega (arith, ap length e)))) m
+    (e ∙ sym (take_all (length rest) (drop place s.text.now) (omega (arith, ap length e)))) m)
 
 -- if the marks of a block are not 0, their number of trailing zeros is that of the bytes before the next mark
 pub found : {text : List ℕ} {place end marks : ℕ} (width : ℕ) → IsBlock text place end marks → marks ≢ 0

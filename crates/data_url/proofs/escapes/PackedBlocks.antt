@@ -88,9 +88,9 @@ packs_front {c} {c'} {buffer} {buffer'} {v} {len} {used} {end} {size} z r k vs s
     }
 
 -- after bytes that were packed, the walk can go on in a block without bytes, if what is left of its block is not longer
-pub looking_again : {s : Source} {b : Block} {place used : ℕ} → Looking s b place 0 → place + used ≤ b.end
-    → b.end - (place + used) ≤ used
-    → Looking s (record { base = place + used; end = place + used; marks = 0 }) (place + used) 0
-looking_again {s} {b} {place} {used} k l few =
+pub looking_again : {s : Source} {b b' : Block} {place used : ℕ} → Looking s b place 0 → place + used ≤ b.end
+    → b.end - (place + used) ≤ used → b' ≡ record { base = place + used; end = place + used; marks = 0 }
+    → Looking s b' (place + used) 0
+looking_again {s} {b} {b'} {place} {used} k l few is =
     let none : place + used - (place + used) ≡ 0 = omega arith in
     grind (arith, paid_on s.text.now place (place + used) (omega arith))

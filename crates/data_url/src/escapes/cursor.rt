@@ -46,11 +46,7 @@ impl<'a> Cursor<'a> {
     {
         Cursor {
             source: Source::new(text),
-            block: Block {
-                base: 0,
-                end: 0,
-                marks: 0,
-            },
+            block: Block::between(0, 0, 0),
             place: 0,
             ahead: Ahead::Unknown,
         }
@@ -66,11 +62,7 @@ impl<'a> Cursor<'a> {
     {
         Cursor {
             source: Source::new(text),
-            block: Block {
-                base: place,
-                end: place,
-                marks: 0,
-            },
+            block: Block::between(place, place, 0),
             place,
             ahead: if place == text.len() || text[place] == b'#' {
                 Ahead::End
@@ -92,11 +84,7 @@ impl<'a> Cursor<'a> {
         ensures knows { Knows self.new }
     {
         let is_percent = self.source.len() > 0 && self.source.look(0) == b'%';
-        self.block = Block {
-            base: 0,
-            end: usize::from(is_percent),
-            marks: u64::from(is_percent),
-        };
+        self.block = Block::between(0, usize::from(is_percent), u64::from(is_percent));
         let len = self.source.len();
         let end = len.min(most);
         let place = self.block.next_mark(&mut self.source, 0, end).min(end);

@@ -33,6 +33,14 @@ pub(super) enum AtMark {
 }
 
 impl Block {
+    /// Returns the block between two places of a text, with its marks.
+    #[inline(always)]
+    pub(super) fn between(base: usize, end: usize, marks: u64) -> Self
+        ensures { result ≡ record { base = base; end = end; marks = marks } }
+    {
+        Block { base, end, marks }
+    }
+
     /// Returns the place of the first marked byte of the block from a place on, or None if there is none.
     #[inline(always)]
     pub(super) fn mark_from(&self, source: &Source<'_>, place: usize) -> Option<usize>
@@ -72,11 +80,7 @@ impl Block {
             .min(end.saturating_add(1));
         while place < blocks_end {
             let bytes = source.look_bytes(place);
-            *self = Block {
-                base: place,
-                end: place + BLOCK,
-                marks: marks_of(bytes, true),
-            };
+            *self = Block::between(place, place + BLOCK, marks_of(bytes, true));
             if let Some(mark) = self.mark_from(source, place) {
                 return mark;
             }
@@ -86,11 +90,7 @@ impl Block {
             return place;
         }
         let rest = source.look_rest(place);
-        *self = Block {
-            base: place,
-            end: place + rest.len(),
-            marks: last_marks(rest),
-        };
+        *self = Block::between(place, place + rest.len(), last_marks(rest));
         match self.mark_from(source, place) {
             Some(mark) => mark,
             None => self.end,

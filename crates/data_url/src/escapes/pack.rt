@@ -44,11 +44,7 @@ impl<'a> Cursor<'a> {
         let place = self.place;
         let _len = self.source.len();
         let bytes = self.source.look_bytes(place);
-        self.block = Block {
-            base: place,
-            end: place + BLOCK,
-            marks: marks_of(bytes, false),
-        };
+        self.block = Block::between(place, place + BLOCK, marks_of(bytes, false));
         bytes
     }
 
@@ -95,11 +91,7 @@ impl<'a> Cursor<'a> {
         }
         let rest = self.source.look_rest(self.place);
         let (marks, packed) = pack_last(rest, buffer, len);
-        self.block = Block {
-            base: self.place,
-            end: self.place + rest.len(),
-            marks,
-        };
+        self.block = Block::between(self.place, self.place + rest.len(), marks);
         let (used, end) = packed?;
         self.go_on_after(used);
         Some(end)
@@ -120,11 +112,7 @@ impl<'a> Cursor<'a> {
         self.place += used;
         let left = self.block.end - self.place;
         if left <= SHORT_REST {
-            self.block = Block {
-                base: self.place,
-                end: self.place,
-                marks: 0,
-            };
+            self.block = Block::between(self.place, self.place, 0);
         }
     }
 }
