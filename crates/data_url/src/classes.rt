@@ -1,8 +1,8 @@
 //! Classes of bytes: six are looked up in one table, the others are compared.
 
-ghost use Rattle.std.specs.Prelude.{◌≡◌, ◌<◌, ◌≤◌, false, length, true, ℕ};
+ghost use Rattle.std.specs.Prelude.{◌≡◌, ◌≤◌, length};
 ghost use Rattle.std.specs.List.{prefix_len, suffix_len};
-ghost use Rattle.data_url.specs.Steps.Classes.{in_class, is_marked};
+ghost use Rattle.data_url.specs.Steps.Classes.{in_class};
 
 pub(crate) mod lanes;
 

@@ -1,7 +1,7 @@
 //! A walk over the text of a body, as the rest of the library sees it: it gives the body's bytes in few pieces.
 
 ghost use Rattle.std.specs.Prelude.{◌≡◌, ◌-◌, ◌≤◌, IfSome, IsTrue, [], drop, length};
-ghost use Rattle.data_url.specs.{Pieces.{walk_at_start}, Url.{after, number_sign}};
+ghost use Rattle.data_url.specs.Url.{after, number_sign};
 ghost use Rattle.data_url.specs.Steps.Chunks.{GivesBytes, IsBodyFrom, IsBodyPrefix};
 ghost use Rattle.data_url.specs.Steps.Tail.{IsBodyEnd};
 

@@ -1,7 +1,7 @@
 //! Decodes the groups of a text of base64 (RFC 4648, section 4): in rows of sixteen bytes as far as possible, and byte
 //! by byte otherwise.
 
-ghost use Rattle.std.specs.Prelude.{◌≡◌, ◌<◌, ◌≤◌, MatchResult, length, slice_index, take, true};
+ghost use Rattle.std.specs.Prelude.{◌≡◌, ◌<◌, ◌≤◌, MatchResult, length, slice_index, take};
 
 use super::InvalidBase64Details;
 use super::alphabet::{decode_row, group_of, is_of_symbols, is_symbol, symbols_ahead};
