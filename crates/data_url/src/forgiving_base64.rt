@@ -179,8 +179,8 @@ pub(crate) fn decode_part<F, E>(
 where
     F: FnMut(&[u8]) -> Result<(), E>,
     requires { F.IsAlwaysCallable write_bytes.old }
-    ensures { DecodesPart (CalledAt F.FnMut) write_bytes.old (left_over_text left_over.old ++ text.now)
-        left_over.new result write_bytes.new }
+    ensures { DecodesPart (CalledAt F.FnMut) write_bytes.old
+        (left_over_text left_over.old ++ text.now) left_over.new result write_bytes.new }
 {
     let write = |piece: &[u8]| -> Result<(), E> { write_bytes(piece) };
     let mut decoder = Decoder::resume(*left_over, write);

@@ -78,7 +78,8 @@ impl<'a> Walk<'a> {
     #[tactic(auto, using(crate::proofs::escapes::Walking::walking))]
     pub(crate) fn place(&self) -> usize
         ensures from { IsBodyFrom self.now.text result self.now }
-        ensures no_hash { after number_sign self.now.text ≡ after number_sign (drop result self.now.text) }
+        ensures no_hash { after number_sign self.now.text
+            ≡ after number_sign (drop result self.now.text) }
     {
         self.cursor.place
     }

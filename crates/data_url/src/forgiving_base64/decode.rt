@@ -141,8 +141,8 @@ where
         requires going { (state_of self.old).failed ≡ false }
         ensures callable { F.IsAlwaysCallable (state_of self.new).closure }
         ensures read { MatchResult result
-            (λ taken. (taken ≤ length text.now) × ReadsHolding (CalledAt F.FnMut) (state_of self.old)
-            (take taken text.now) [] (state_of self.new))
+            (λ taken. (taken ≤ length text.now) × ReadsHolding (CalledAt F.FnMut)
+            (state_of self.old) (take taken text.now) [] (state_of self.new))
             (λ error. EndsWithin (CalledAt F.FnMut) (state_of self.old) text.now error
             (state_of self.new)) }
     {

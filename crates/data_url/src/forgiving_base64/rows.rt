@@ -20,7 +20,8 @@ impl HeldGroups {
     pub(crate) fn decode_ahead(&mut self, text: &[u8]) -> usize
         requires room { self.old.len < 192 }
         ensures within { result ≤ length text.now }
-        ensures added { AddsGroups (held_bytes self.old) (take result text.now) (held_bytes self.new) }
+        ensures added { AddsGroups (held_bytes self.old) (take result text.now)
+            (held_bytes self.new) }
     {
         if text.len() < 4 {
             return 0;
@@ -45,7 +46,8 @@ impl HeldGroups {
     fn decode_rows(&mut self, text: &[u8]) -> usize
         requires room { self.old.len < 192 }
         ensures within { result ≤ length text.now }
-        ensures added { AddsGroups (held_bytes self.old) (take result text.now) (held_bytes self.new) }
+        ensures added { AddsGroups (held_bytes self.old) (take result text.now)
+            (held_bytes self.new) }
     {
         let rows_end = text.len().saturating_sub(15);
         let mut len = self.len;
@@ -87,7 +89,8 @@ impl HeldGroups {
     fn decode_spaced_rows(&mut self, text: &[u8]) -> usize
         requires room { self.old.len < 192 }
         ensures within { result ≤ length text.now }
-        ensures added { AddsGroups (held_bytes self.old) (take result text.now) (held_bytes self.new) }
+        ensures added { AddsGroups (held_bytes self.old) (take result text.now)
+            (held_bytes self.new) }
     {
         let mut symbols = [0; 288];
         let (have, at) = pack_rows(text, &mut symbols, (FULL - self.len) / 3 * 4);
