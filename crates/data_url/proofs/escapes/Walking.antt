@@ -11,7 +11,7 @@ use Rattle.data_url.specs.{Fetch.{plain_body}, Pieces.{Walk, text_of, IsStretch,
 use Rattle.data_url.specs.{Pieces.{walk_of}, Steps.Digits.{EscapeAt}}
 use Rattle.data_url.specs.Steps.Chunks.{IsBodyFrom, IsBodyPrefix, IsOver, Takes}
 use Rattle.data_url.specs.{Steps.Digits.{cleaned}, Steps.Tail.{BeginsFragment, IsBodyEnd, rest_fragment}}
-use Rattle.data_url.specs.Steps.Walk.{Ended, EndsAt, Gathers, GivesPiece, IsClear, IsMarkUpTo, IsPart, Knows}
+use Rattle.data_url.specs.Steps.Walk.{BodyEndsAt, Ended, Gathers, GivesPiece, IsClear, IsMarkUpTo, IsPart, Knows}
 use Rattle.data_url.specs.Steps.Walk.{KnowsAhead}
 use Rattle.data_url.specs.{Steps.Walk.{Looking, LooksOn, MayGather, Pays, Reads, Searching, Spells}, Url.{before}}
 use Rattle.data_url.specs.{Url.{after, front, without_tabs_and_newlines}, declared.escapes.Piece.{Piece}}
@@ -161,7 +161,7 @@ looking_escape {s} {s'} {b} {place} k t l w = let p = paid_on s.text.now place (
 
 -- a walk that stops at the end of the body ends there
 pub ended_at : {c : Cursor} {s : Source} {b : Block} {mark : ℕ} → Looking s b mark 0 → c.source.text.now ≡ s.text.now
-    → EndsAt s.text.now mark → c.source.looks + mark ≤ s.looks + length s.text.now → c.place ≡ mark → Ended c
+    → BodyEndsAt s.text.now mark → c.source.looks + mark ≤ s.looks + length s.text.now → c.place ≡ mark → Ended c
 ended_at {c} {s} {b} {mark} k t h l e = grind (arith, paid_le)
 
 -- if `ahead` is a, and what a says is true, what `ahead` says is true

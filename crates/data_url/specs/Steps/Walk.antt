@@ -58,7 +58,7 @@ pub record IsMarkUpTo (text : List ℕ) (from end to : ℕ) : Type 0 where
   pub marked : to ≤ end → to < length text → is_marked (slice_index text to) ≡ true
 
 -- the body ends at the index
-pub record EndsAt (text : List ℕ) (place : ℕ) : Type 0 where
+pub record BodyEndsAt (text : List ℕ) (place : ℕ) : Type 0 where
   pub within : place ≤ length text
   pub begins : BeginsFragment (drop place text)
 
@@ -77,7 +77,7 @@ IsAtMark text mark looks looks' at_mark.Passed = (is_slice_end (drop mark text) 
     × Spells text mark (mark + 1) [] [] × Pays text mark (mark + 1) looks looks' 0
 IsAtMark text mark looks looks' (at_mark.Escape value end) = (is_slice_end (drop mark text) ≡ true)
     × EscapeAt text mark value end × Pays text mark end looks looks' 3
-IsAtMark text mark looks looks' at_mark.End = (is_slice_end (drop mark text) ≡ true) × EndsAt text mark
+IsAtMark text mark looks looks' at_mark.End = (is_slice_end (drop mark text) ≡ true) × BodyEndsAt text mark
     × (looks' + mark ≤ looks + length text)
 
 -- Walks
@@ -104,7 +104,7 @@ pub record LooksOn (s s' : Source) : Type 0 where
 
 -- the walk ends at the index
 pub record Ended (c : Cursor) : Type 0 where
-  pub ends : EndsAt (text_of c) c.place
+  pub ends : BodyEndsAt (text_of c) c.place
   pub few_looks : c.source.looks ≤ 3 * length (text_of c)
 
 -- what is true of a walk, by what it knows about its index

@@ -6,8 +6,7 @@ ghost use Rattle.std.specs.List.{list_all, prefix_len};
 ghost use Rattle.std.specs.Simd.Lanes.{mask_l};
 ghost use Rattle.data_url.specs.Base64.{group_bytes, group_number, groups, is_symbol, symbol_value};
 ghost use Rattle.data_url.specs.Steps.Groups.{is_symbol_or_space};
-ghost use Rattle.data_url.specs.Steps.Lanes.{DecodesFront};
-ghost use Rattle.data_url.specs.Steps.Lanes.{number_bytes, numbers, twelves, value_of};
+ghost use Rattle.data_url.specs.Steps.Lanes.{DecodesFront, lane_value, number_bytes, numbers, twelves};
 
 use crate::classes::lanes::{is_unmarked, outside, repeated, row};
 use std::simd::prelude::*;
@@ -108,7 +107,7 @@ pub(crate) fn is_spaced(bytes: u8x64) -> bool
 /// The value of each symbol of a block. A byte that is no symbol gets a value too, which is of no use.
 #[inline(always)]
 fn values_of(bytes: u8x64) -> u8x64
-    ensures { result ≡ map value_of bytes }
+    ensures { result ≡ map lane_value bytes }
 {
     let is_slash = bytes.simd_eq(u8x64::splat(b'/'));
     let rows = (bytes >> u8x64::splat(4)) + is_slash.select(u8x64::splat(255), u8x64::splat(0));

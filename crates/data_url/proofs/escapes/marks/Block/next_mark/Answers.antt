@@ -17,7 +17,8 @@ returns-in-Some-mark_from-clause-looking c =
     let look = c.look_bytes-bytes.ensures in
     let total = ap length i.on.text_stays in
     looking_mark (looking_whole {s' = c.look_bytes-bytes.new.self} c.look_bytes-bytes.result i.looking i.unseen
-    (omega (arith, total)) look.text look.looks look.bytes c.marks_of.ensures c.between.ensures) c.in-Some-mark_from.ensures.1
+    (omega (arith, total)) look.text look.looks look.bytes c.marks_of.ensures c.between.ensures)
+    c.in-Some-mark_from.ensures.1
 
 pub returns-in-Some-mark_from-clause-at_end : goal.returns-in-Some-mark_from-clause-at_end
 returns-in-Some-mark_from-clause-at_end c = λ l m.
@@ -26,7 +27,8 @@ returns-in-Some-mark_from-clause-at_end c = λ l m.
     let total = ap length i.on.text_stays in
     let bound = c.in-Some-mark_from.ensures.1.within in
     looking_on c.args.end (looking_whole {s' = c.look_bytes-bytes.new.self} c.look_bytes-bytes.result i.looking i.unseen
-    (omega (arith, total)) look.text look.looks look.bytes c.marks_of.ensures c.between.ensures) (omega arith) (omega (arith, bound))
+    (omega (arith, total)) look.text look.looks look.bytes c.marks_of.ensures c.between.ensures) (omega arith)
+    (omega (arith, bound))
 
 pub returns-in-Some-mark_from-clause-mark : goal.returns-in-Some-mark_from-clause-mark
 returns-in-Some-mark_from-clause-mark c =
@@ -65,7 +67,8 @@ returns-in-Some-mark_from-2-clause-looking c =
     let look = c.look_rest-rest.ensures in
     let total = ap length i.on.text_stays in
     looking_mark (looking_rest {s' = c.look_rest-rest.new.self} c.look_rest-rest.result.now i.looking i.unseen look.text
-    (omega (arith, total)) look.bytes c.last_marks.ensures look.looks c.between-2.ensures) c.in-Some-mark_from-2.ensures.1
+    (omega (arith, total)) look.bytes c.last_marks.ensures look.looks c.between-2.ensures)
+    c.in-Some-mark_from-2.ensures.1
 
 pub returns-in-Some-mark_from-2-clause-at_end : goal.returns-in-Some-mark_from-2-clause-at_end
 returns-in-Some-mark_from-2-clause-at_end c = λ l m.
@@ -74,7 +77,8 @@ returns-in-Some-mark_from-2-clause-at_end c = λ l m.
     let total = ap length i.on.text_stays in
     let bound = c.in-Some-mark_from-2.ensures.1.within in
     looking_on c.args.end (looking_rest {s' = c.look_rest-rest.new.self} c.look_rest-rest.result.now i.looking i.unseen
-    look.text (omega (arith, total)) look.bytes c.last_marks.ensures look.looks c.between-2.ensures) (omega arith) (omega (arith, bound))
+    look.text (omega (arith, total)) look.bytes c.last_marks.ensures look.looks c.between-2.ensures) (omega arith)
+    (omega (arith, bound))
 
 pub returns-in-None-clause-looking : goal.returns-in-None-clause-looking
 returns-in-None-clause-looking c =
@@ -82,7 +86,8 @@ returns-in-None-clause-looking c =
     let look = c.look_rest-rest.ensures in
     let total = ap length i.on.text_stays in
     looking_end (looking_rest {s' = c.look_rest-rest.new.self} c.look_rest-rest.result.now i.looking i.unseen look.text
-    (omega (arith, total)) look.bytes c.last_marks.ensures look.looks c.between-2.ensures) (rw c.between-2.ensures (omega arith))
+    (omega (arith, total)) look.bytes c.last_marks.ensures look.looks c.between-2.ensures)
+    (rw c.between-2.ensures (omega arith))
 
 pub returns-in-None-clause-at_end : goal.returns-in-None-clause-at_end
 returns-in-None-clause-at_end c = λ l m.
