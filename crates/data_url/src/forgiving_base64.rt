@@ -169,8 +169,8 @@ where
     }
 }
 
-/// Calls a closure with the bytes of the groups that a text completes after what was left over, and puts what is left
-/// over then in its place. After an error that value is of no use.
+/// Calls a closure with the bytes of the groups that a text completes after what was left over. What is left over then
+/// takes the place of what was. After an error it is of no use.
 pub(crate) fn decode_part<F, E>(
     left_over: &mut LeftOver,
     text: &[u8],

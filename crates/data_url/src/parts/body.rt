@@ -117,10 +117,10 @@ impl<'a> Body<'a> {
     /// and newlines are dropped, escapes are decoded (URL Standard, section 1.3), and base64 is decoded after that
     /// (Infra Standard, forgiving-base64 decode).
     ///
-    /// Of a body that is not base64, writes until the body ends or the output is full, but for fewer than 512 bytes of
-    /// a larger output. Of base64, writes whole groups as far as they fit; white space counts as symbols. With an
-    /// output of four bytes or more the place moves forward. An output that is as long as the rest of the tail, and has
-    /// six bytes or more, gets the whole rest of the body.
+    /// Of a body that is not base64, writes until the body ends or the output is full. It may stop earlier, when fewer
+    /// than 512 bytes of a larger output are left. Of base64, writes whole groups as far as they fit; white space
+    /// counts as symbols. With an output of four bytes or more the place moves forward. An output that is as long as
+    /// the rest of the tail, and has six bytes or more, gets the whole rest of the body.
     ///
     /// Returns how many bytes were written, and how the body goes on: with the rest of the body, with the place where
     /// it has ended, or with the fault if its base64 is not valid.

@@ -10,7 +10,8 @@ use crate::escapes::Walk;
 use crate::forgiving_base64::{DecodeError, InvalidBase64Details, LeftOver};
 use std::convert::Infallible;
 
-/// Writes a piece to an output, after the bytes that are written, if it fits. Their number goes up with it.
+/// Writes a piece to an output after its first `len` bytes, and adds its length to `len`. Does nothing if it does not
+/// fit.
 #[inline(always)]
 pub(super) fn push(output: &mut [u8], len: &mut usize, piece: &[u8])
     ensures { Writes piece.now output.old len.old output.new len.new }
