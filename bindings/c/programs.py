@@ -37,7 +37,7 @@ def inputs_and_outputs(program):
 
 def main(folder):
     programs = shown()
-    assert len(programs) == 6, f"{len(programs)} programs are shown"
+    assert len(programs) == 5, f"{len(programs)} programs are shown"
     for number, program in enumerate(programs):
         argument = TYPE if "arguments[1]" in program else ""
         texts = (program, *inputs_and_outputs(program), argument)

@@ -33,7 +33,7 @@
 //!
 //! # Speed
 //!
-//! Times as fast as the crate, from the shortest texts to long ones; `bindings/README.md` has a table of all rows.
+//! Times as fast as the crate, from the shortest texts to long ones; `docs/MEASUREMENTS.md` has all figures.
 //!
 //! - [`DataUrl::process`]: 1.6 to 2.5 with a MIME type, 1.06 without a header, 1.07 with `;base64` alone.
 //! - With [`DataUrl::decode_to_vec`]: 1.10 without a header, 1.28 with `;base64` alone, otherwise 1.49 to 33. With

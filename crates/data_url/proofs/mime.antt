@@ -1,5 +1,6 @@
 pub mod TokenTexts
 pub mod Items
+pub mod Lowercase
 pub mod PartTexts
 pub mod Parsing
 pub mod FirstNames

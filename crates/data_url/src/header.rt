@@ -58,6 +58,7 @@ fn is_suffix_word(word: &[u8]) -> bool
 }
 
 /// Returns the text before `;`, spaces and `base64` (in any ASCII case) at the end of a header, if it ends so.
+#[inline(always)]
 #[tactic(auto, using(crate::proofs::header::Serialising::suffixes))]
 fn without_suffix(header: &str) -> Option<&str>
     requires { IsPrintable header.now }
@@ -103,6 +104,7 @@ pub(crate) fn serialised_text<'a>(text: &'a Option<String>, header: &'a str) -> 
 }
 
 /// A serialised header without its suffix, and whether it has one, so that the body is base64.
+#[inline(always)]
 #[tactic(auto, using(crate::proofs::header::Stages::printable_trimmed))]
 pub(crate) fn split_suffix(header: &str) -> (&str, bool)
     requires { IsPrintable header.now }

@@ -7,6 +7,7 @@ mod few;
 mod in_parts;
 mod kept;
 mod line;
+mod lower;
 mod parse;
 mod print;
 mod values;

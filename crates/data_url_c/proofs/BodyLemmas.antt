@@ -13,8 +13,8 @@ use Rattle.data_url_c.specs.Parts.{waiting_text}
 use Rattle.data_url.specs.Parts.{WritesFront}
 use Rattle.data_url_c.specs.Steps.{HoldsLeft, IsBodyOf}
 use Rattle.data_url_c.specs.declared.body.DataUrlBody.{DataUrlBody}
-use Rattle.data_url_c.specs.declared.parts.DataUrlBase64.{DataUrlBase64}
-use Rattle.data_url_c.specs.declared.parts.DataUrlStep.{DataUrlStep}
+use Rattle.data_url_c.specs.declared.base64.DataUrlBase64.{DataUrlBase64}
+use Rattle.data_url_c.specs.declared.answer.DataUrlStep.{DataUrlStep}
 
 -- what a state holds, as a text
 left_text_is : {s : DataUrlBase64} {left : LeftOver} → HoldsLeft s left → left_over_text left ≡ waiting_text s

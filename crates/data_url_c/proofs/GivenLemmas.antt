@@ -25,9 +25,9 @@ use Rattle.data_url_c.specs.Answers.{Crosses, Answers, Given}
 use Rattle.data_url_c.specs.Gives.{GivesBody, GivesFragment, GivesMime, GivesType, IsUrlWith, RefusesUrl}
 use Rattle.data_url_c.specs.Steps.{HasBody, HasFragment, HasText}
 use Rattle.data_url_c.specs.declared.answer.DataUrlAnswer.{DataUrlAnswer}
-use Rattle.data_url_c.specs.declared.refusal.Refusal.{Refusal}
-use Rattle.data_url_c.specs.declared.refusal.Refusal.TheVariants.{InvalidBase64, NoComma, NoFragment, NotADataUrl}
-use Rattle.data_url_c.specs.declared.refusal.Refusal.TheVariants.{NotAMimeType, NotUtf8, OutOfMemory}
+use Rattle.data_url_c.specs.declared.answer.Refusal.{Refusal}
+use Rattle.data_url_c.specs.declared.answer.Refusal.TheVariants.{InvalidBase64, NoComma, NoFragment, NotADataUrl}
+use Rattle.data_url_c.specs.declared.answer.Refusal.TheVariants.{NotAMimeType, NotUtf8, OutOfMemory}
 
 -- URLs
 

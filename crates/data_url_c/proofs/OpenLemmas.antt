@@ -24,7 +24,7 @@ use Rattle.data_url_c.specs.Steps.{IsRefusalOf}
 use Rattle.data_url_c.specs.Steps.Opening.{IsOpenedAt, IsRefused}
 use Rattle.data_url_c.specs.declared.answer.DataUrlAnswer.{DataUrlAnswer}
 use Rattle.data_url_c.specs.declared.open.DataUrlOpened.{DataUrlOpened}
-use Rattle.data_url_c.specs.declared.refusal.Refusal.{Refusal}
+use Rattle.data_url_c.specs.declared.answer.Refusal.{Refusal}
 
 -- The place of the tail
 

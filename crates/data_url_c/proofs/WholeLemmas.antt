@@ -18,7 +18,7 @@ use Rattle.data_url_c.specs.Bodies.{EndsAs}
 use Rattle.data_url_c.specs.Gives.{GivesBody}
 use Rattle.data_url.specs.Parts.{WritesFront}
 use Rattle.data_url_c.specs.Steps.{AnyAnswer, GetsBody}
-use Rattle.data_url_c.specs.declared.refusal.Refusal.TheVariants.{InvalidBase64}
+use Rattle.data_url_c.specs.declared.answer.Refusal.TheVariants.{InvalidBase64}
 use Rattle.data_url_c.proofs.GivenLemmas.{url_with, vec_of}
 use Rattle.data_url_c.proofs.OutputLemmas.{Reaches, no_refusal, passes_on, writes_front}
 

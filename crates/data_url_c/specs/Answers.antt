@@ -6,9 +6,9 @@ use Rattle.data_url.specs.declared.forgiving_base64.InvalidBase64Details.TheVari
 use Rattle.data_url.specs.declared.forgiving_base64.InvalidBase64Details.TheVariants.{LoneAlphabetSymbol, Padding}
 use Rattle.data_url.specs.declared.forgiving_base64.InvalidBase64Details.TheVariants.{UnexpectedSymbol}
 use Rattle.data_url_c.specs.declared.answer.DataUrlAnswer.{DataUrlAnswer}
-use Rattle.data_url_c.specs.declared.refusal.Refusal.TheVariants.{InvalidBase64, NoComma, NoFragment, NotADataUrl}
-use Rattle.data_url_c.specs.declared.refusal.Refusal.TheVariants.{NotAMimeType, NotUtf8, OutOfMemory}
-use Rattle.data_url_c.specs.declared.refusal.Refusal.{Refusal}
+use Rattle.data_url_c.specs.declared.answer.Refusal.TheVariants.{InvalidBase64, NoComma, NoFragment, NotADataUrl}
+use Rattle.data_url_c.specs.declared.answer.Refusal.TheVariants.{NotAMimeType, NotUtf8, OutOfMemory}
+use Rattle.data_url_c.specs.declared.answer.Refusal.{Refusal}
 
 -- a result: bytes, or why there are none
 abbrev pub Given : Type 0

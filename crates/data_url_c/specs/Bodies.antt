@@ -7,7 +7,7 @@ use Rattle.data_url_c.specs.Answers.{status_of_kind}
 use Rattle.data_url_c.specs.Parts.{DoesNothing, is_good_state, waiting_text}
 use Rattle.data_url.specs.Parts.{WritesFront}
 use Rattle.data_url_c.specs.declared.body.DataUrlBody.{DataUrlBody}
-use Rattle.data_url_c.specs.declared.parts.DataUrlStep.{DataUrlStep}
+use Rattle.data_url_c.specs.declared.answer.DataUrlStep.{DataUrlStep}
 
 -- a body was written to the start of the output. For a bad body, the bytes before its fault were
 -- written, and the status is that of the fault.

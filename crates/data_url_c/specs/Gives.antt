@@ -8,9 +8,9 @@ use Rattle.data_url.specs.Mime.{HasNoRecord, IsRecordOf, Parses, Record, printed
 use Rattle.data_url_c.specs.Answers.{Given}
 use Rattle.data_url.specs.Parts.{parts_of}
 use Rattle.data_url_c.specs.Forms.{serialised}
-use Rattle.data_url_c.specs.declared.refusal.Refusal.TheVariants.{InvalidBase64, NoComma, NoFragment, NotADataUrl}
-use Rattle.data_url_c.specs.declared.refusal.Refusal.TheVariants.{NotAMimeType, NotUtf8, OutOfMemory}
-use Rattle.data_url_c.specs.declared.refusal.Refusal.{Refusal}
+use Rattle.data_url_c.specs.declared.answer.Refusal.TheVariants.{InvalidBase64, NoComma, NoFragment, NotADataUrl}
+use Rattle.data_url_c.specs.declared.answer.Refusal.TheVariants.{NotAMimeType, NotUtf8, OutOfMemory}
+use Rattle.data_url_c.specs.declared.answer.Refusal.{Refusal}
 
 -- why bytes are not a data: URL: they are not UTF-8, or the Standard finds no scheme or no comma; or
 -- allocation failed for a text that has both

@@ -6,9 +6,9 @@ use Rattle.data_url.specs.Base64.{complete_bytes, decoded, first_fault, is_symbo
 use Rattle.data_url.specs.Base64.{left_symbols, left_text}
 use Rattle.data_url.specs.Parts.{EncodesPart, WritesFront}
 use Rattle.data_url_c.specs.Answers.{status_of_kind}
-use Rattle.data_url_c.specs.declared.parts.DataUrlBase64.{DataUrlBase64}
-use Rattle.data_url_c.specs.declared.parts.DataUrlFed.{DataUrlFed}
-use Rattle.data_url_c.specs.declared.parts.DataUrlStep.{DataUrlStep}
+use Rattle.data_url_c.specs.declared.base64.DataUrlBase64.{DataUrlBase64}
+use Rattle.data_url_c.specs.declared.answer.DataUrlFed.{DataUrlFed}
+use Rattle.data_url_c.specs.declared.answer.DataUrlStep.{DataUrlStep}
 
 -- what is left over in a state, as a text: the symbols, then the padding
 abbrev pub waiting_text : DataUrlBase64 → List ℕ

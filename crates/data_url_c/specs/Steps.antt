@@ -19,10 +19,10 @@ use Rattle.data_url_c.specs.Bodies.{IsGoodBody, flag_of}
 use Rattle.data_url_c.specs.Gives.{RefusesUrl}
 use Rattle.data_url_c.specs.Parts.{IsLeftOf, is_good_state}
 use Rattle.data_url_c.specs.declared.body.DataUrlBody.{DataUrlBody}
-use Rattle.data_url_c.specs.declared.parts.DataUrlBase64.{DataUrlBase64}
-use Rattle.data_url_c.specs.declared.refusal.Refusal.TheVariants.{InvalidBase64, NoComma, NoFragment, NotADataUrl}
-use Rattle.data_url_c.specs.declared.refusal.Refusal.TheVariants.{OutOfMemory}
-use Rattle.data_url_c.specs.declared.refusal.Refusal.{Refusal}
+use Rattle.data_url_c.specs.declared.base64.DataUrlBase64.{DataUrlBase64}
+use Rattle.data_url_c.specs.declared.answer.Refusal.TheVariants.{InvalidBase64, NoComma, NoFragment, NotADataUrl}
+use Rattle.data_url_c.specs.declared.answer.Refusal.TheVariants.{OutOfMemory}
+use Rattle.data_url_c.specs.declared.answer.Refusal.{Refusal}
 
 -- true of every result
 abbrev pub AnyAnswer : {A : Type 0} → A → Type 0

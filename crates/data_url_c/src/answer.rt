@@ -4,40 +4,60 @@ ghost use Rattle.std.specs.Prelude.{◌≡◌, List, ℕ};
 ghost use Rattle.data_url.specs.Parts.{WritesIfFits};
 ghost use Rattle.data_url_c.specs.Answers.{Crosses, Shows};
 
-use crate::kind::status_of;
-use crate::refusal::Refusal;
+use crate::status::{
+    DONE, NO_COMMA, NO_FRAGMENT, NOT_A_DATA_URL, NOT_A_MIME_TYPE, NOT_UTF8, OUT_OF_MEMORY,
+    OUTPUT_TOO_SMALL, status_of,
+};
+use data_url::forgiving_base64::InvalidBase64;
 
-/// The call succeeded.
-pub(crate) const DONE: u32 = 0;
+/// Why a call failed.
+#[derive(Drop)]
+pub enum Refusal {
+    /// The text does not begin with the scheme `data:`.
+    NotADataUrl,
+    /// There is no comma before the fragment.
+    NoComma,
+    /// Allocation failed.
+    OutOfMemory,
+    /// The bytes are not UTF-8.
+    NotUtf8,
+    /// The text is not a MIME type.
+    NotAMimeType,
+    /// The URL has no fragment.
+    NoFragment,
+    /// The base64 is not valid; with the bytes before its first fault, if the call returns them.
+    InvalidBase64(InvalidBase64, Vec<u8>),
+}
 
-/// The text has no scheme `data:`.
-const NOT_A_DATA_URL: u32 = 1;
-
-/// There is no comma before the fragment.
-const NO_COMMA: u32 = 2;
-
-/// Allocation failed.
-const OUT_OF_MEMORY: u32 = 3;
-
-/// The text is not UTF-8.
-pub(crate) const NOT_UTF8: u32 = 4;
-
-/// The output is too small for the result.
-pub(crate) const OUTPUT_TOO_SMALL: u32 = 5;
-
-/// The text is not a MIME type.
-const NOT_A_MIME_TYPE: u32 = 6;
-
-/// The URL has no fragment.
-const NO_FRAGMENT: u32 = 7;
-
-/// What every export returns.
+/// What a call for a whole text returns.
 #[repr(C)]
 #[derive(Clone, Copy)]
 pub struct DataUrlAnswer {
     /// How the call ended: 0 if it succeeded.
     pub status: u32,
     /// How many bytes the result has, whether or not they fit into the output.
+    pub len: usize,
+}
+
+/// What feeding a part of base64, or encoding a part of a fragment, returns.
+#[repr(C)]
+#[derive(Clone, Copy)]
+pub struct DataUrlFed {
+    /// How the call ended: 0 if it succeeded, 11 if a fragment goes on.
+    pub status: u32,
+    /// How many bytes were written to the front of the output.
+    pub len: usize,
+    /// How many bytes of the part were read, from its start.
+    pub read: usize,
+}
+
+/// What a step of decoding returns.
+#[repr(C)]
+#[derive(Clone, Copy)]
+pub struct DataUrlStep {
+    /// How the call ended: 0 if it succeeded.
+    pub status: u32,
+    /// How many bytes were written to the front of the output.
     pub len: usize,
 }
 

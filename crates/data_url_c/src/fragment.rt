@@ -1,11 +1,42 @@
-//! Fragments in parts.
+//! Fragments, whole and in parts.
 
-ghost use Rattle.data_url_c.specs.Parts.{EncodesFragment};
+ghost use Rattle.data_url_c.specs.{Gives.{GivesFragment}, Parts.{EncodesFragment}, Steps.{HasFragment}};
 
-use crate::answer::{DONE, OUTPUT_TOO_SMALL};
-use crate::body::MORE;
-use crate::parts::DataUrlFed;
+use crate::answer::{DataUrlFed, Refusal};
+use crate::status::{DONE, MORE, OUTPUT_TOO_SMALL};
+use crate::url::url_of_bytes;
+use data_url::DataUrl;
+use data_url::forgiving_base64::DecodeError;
 use data_url::parts::{Encoded, encode_fragment};
+use std::alloc::{AllocError, Global};
+use std::convert::Infallible;
+
+/// The encoded fragment of a URL, whose whole body is decoded first.
+fn encoded_fragment_of(alloc: Global, url: &DataUrl) -> Result<Vec<u8>, Refusal>
+    ensures { HasFragment url.now result }
+{
+    match url.decode(|_piece: &[u8]| -> Result<(), Infallible> { Ok(()) }) {
+        Ok(Some(fragment)) => match fragment.to_percent_encoded(alloc) {
+            Ok(text) => Ok(text.into_bytes()),
+            Err(AllocError) => Err(Refusal::OutOfMemory),
+        },
+        Ok(None) => Err(Refusal::NoFragment),
+        Err(DecodeError::InvalidBase64(refusal)) => {
+            Err(Refusal::InvalidBase64(refusal, Vec::new(alloc)))
+        }
+        Err(DecodeError::WriteError(never)) => match never {},
+    }
+}
+
+/// The encoded fragment of the URL of a text.
+pub(crate) fn fragment(alloc: Global, url: &[u8]) -> Result<Vec<u8>, Refusal>
+    ensures { GivesFragment url.now result }
+{
+    match url_of_bytes(alloc, url) {
+        Ok(url) => encoded_fragment_of(alloc, &url),
+        Err(refusal) => Err(refusal),
+    }
+}
 
 /// The smallest output that a fragment is encoded into, in bytes: a byte is written as three at most.
 const SMALLEST_OUTPUT: usize = 3;

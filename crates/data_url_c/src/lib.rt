@@ -46,20 +46,16 @@ mod answer;
 mod base64;
 mod body;
 mod fragment;
-mod kind;
+mod mime;
 mod open;
-mod output;
-mod parts;
-mod refusal;
-mod texts;
-mod whole;
+mod status;
+mod url;
 
-pub use answer::DataUrlAnswer;
 use answer::answer;
+pub use answer::{DataUrlAnswer, DataUrlFed, DataUrlStep, Refusal};
+pub use base64::DataUrlBase64;
 pub use body::DataUrlBody;
 pub use open::DataUrlOpened;
-pub use parts::{DataUrlBase64, DataUrlFed, DataUrlStep};
-pub use refusal::Refusal;
 use std::alloc::Global;
 
 /// The body of a data: URL ([Fetch Standard, section 6](https://fetch.spec.whatwg.org/#data-url-processor)). If its
@@ -69,8 +65,8 @@ use std::alloc::Global;
 pub extern "C" fn dataurl_body(alloc: Global, url: &[u8], out: &mut [u8]) -> DataUrlAnswer
     ensures { Answers (GivesBody url.now) out.old out.new result }
 {
-    match texts::text_of(url) {
-        Some(text) => whole::body(alloc, text, out),
+    match url::text_of(url) {
+        Some(text) => body::body(alloc, text, out),
         None => answer(Err(Refusal::NotUtf8), out),
     }
 }
@@ -82,7 +78,7 @@ pub extern "C" fn dataurl_body(alloc: Global, url: &[u8], out: &mut [u8]) -> Dat
 pub extern "C" fn dataurl_mime(alloc: Global, url: &[u8], out: &mut [u8]) -> DataUrlAnswer
     ensures { Answers (GivesMime url.now) out.old out.new result }
 {
-    answer(texts::mime(alloc, url), out)
+    answer(mime::mime(alloc, url), out)
 }
 
 /// The fragment of a data: URL, percent-encoded
@@ -92,7 +88,7 @@ pub extern "C" fn dataurl_mime(alloc: Global, url: &[u8], out: &mut [u8]) -> Dat
 pub extern "C" fn dataurl_fragment(alloc: Global, url: &[u8], out: &mut [u8]) -> DataUrlAnswer
     ensures { Answers (GivesFragment url.now) out.old out.new result }
 {
-    answer(texts::fragment(alloc, url), out)
+    answer(fragment::fragment(alloc, url), out)
 }
 
 /// A MIME type, parsed and printed
@@ -101,7 +97,7 @@ pub extern "C" fn dataurl_fragment(alloc: Global, url: &[u8], out: &mut [u8]) ->
 pub extern "C" fn dataurl_type(alloc: Global, text: &[u8], out: &mut [u8]) -> DataUrlAnswer
     ensures { Answers (GivesType text.now) out.old out.new result }
 {
-    answer(texts::type_(alloc, text), out)
+    answer(mime::type_(alloc, text), out)
 }
 
 /// A MIME type, parsed
@@ -112,8 +108,8 @@ pub extern "C" fn dataurl_type(alloc: Global, text: &[u8], out: &mut [u8]) -> Da
 pub extern "C" fn dataurl_type_parts(alloc: Global, text: &[u8], out: &mut [u8]) -> DataUrlAnswer
     ensures { Answers (GivesTypeInParts text.now) out.old out.new result }
 {
-    match texts::text_of(text) {
-        Some(text) => texts::type_in_parts(alloc, text, out),
+    match url::text_of(text) {
+        Some(text) => mime::type_in_parts(alloc, text, out),
         None => answer(Err(Refusal::NotUtf8), out),
     }
 }
@@ -128,7 +124,7 @@ pub extern "C" fn dataurl_type_parts_utf8(
     requires { IsUtf8 text.now }
     ensures { Answers (GivesTypeInParts text.now) out.old out.new result }
 {
-    texts::type_in_parts(alloc, unsafe { str::from_utf8_unchecked(text) }, out)
+    mime::type_in_parts(alloc, unsafe { str::from_utf8_unchecked(text) }, out)
 }
 
 /// Decodes base64
@@ -147,7 +143,7 @@ pub extern "C" fn dataurl_base64(alloc: Global, text: &[u8], out: &mut [u8]) -> 
 pub extern "C" fn dataurl_open(alloc: Global, url: &[u8], out: &mut [u8]) -> DataUrlOpened
     ensures { Opens url.now out.old out.new result }
 {
-    match texts::text_of(url) {
+    match url::text_of(url) {
         Some(text) => open::open(alloc, text, out),
         None => open::refused(Refusal::NotUtf8, out),
     }
@@ -167,7 +163,7 @@ pub extern "C" fn dataurl_open_utf8(alloc: Global, url: &[u8], out: &mut [u8]) -
 pub extern "C" fn dataurl_open_parts(alloc: Global, url: &[u8], out: &mut [u8]) -> DataUrlOpened
     ensures { OpensInParts url.now out.old out.new result }
 {
-    match texts::text_of(url) {
+    match url::text_of(url) {
         Some(text) => dataurl_open_parts_utf8(alloc, text.as_bytes(), out),
         None => open::refused(Refusal::NotUtf8, out),
     }
@@ -198,7 +194,7 @@ pub extern "C" fn dataurl_base64_feed(
 ) -> DataUrlFed
     ensures { FeedsPart state.old state.new input.now out.old out.new result }
 {
-    parts::feed(state, input, out)
+    base64::feed(state, input, out)
 }
 
 /// Ends base64 that was fed in parts, and writes its last bytes, of which there are at most two. After that, calls
@@ -207,7 +203,7 @@ pub extern "C" fn dataurl_base64_feed(
 pub extern "C" fn dataurl_base64_finish(state: &mut DataUrlBase64, out: &mut [u8]) -> DataUrlStep
     ensures { FinishesPart state.old state.new out.old out.new result }
 {
-    parts::finish(state, out)
+    base64::finish(state, out)
 }
 
 /// Decodes the next part of a body into the output, without allocation

@@ -6,9 +6,10 @@ ghost use Rattle.data_url.specs.{Fetch.{tail_of}, Url.{is_c0_control_or_space}};
 ghost use Rattle.data_url_c.specs.Opens.{Opens, OpensInParts};
 ghost use Rattle.data_url_c.specs.Steps.Opening.{IsRefused};
 
-use crate::answer::{DONE, DataUrlAnswer, answer, show, written};
-use crate::refusal::Refusal;
-use crate::texts::{printed_of, refusal_of, url_of};
+use crate::answer::{DataUrlAnswer, Refusal, answer, show, written};
+use crate::mime::printed_of;
+use crate::status::DONE;
+use crate::url::{refusal_of, url_of};
 use data_url::parts::{Body, read_header};
 use std::alloc::Global;
 

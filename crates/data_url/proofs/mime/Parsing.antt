@@ -1,12 +1,13 @@
 -- What the parser cuts: values of parameters, type, subtype and parameters. For `parse.rt`, `values.rt`, `cuts.rt`.
 use Rattle.std.proofs.Common.{length, take, drop, encode_utf8_all, refl, sym, ap, ◌∙◌, arith, take-append-drop}
 use Rattle.std.proofs.Common.{length-take-le, codes, subst, take-take, length-take, ◌≡◌, ℕ, zero, suc, ◌+◌, ◌-◌, ◌<◌}
-use Rattle.std.proofs.Common.{◌==◌, Bool, true, false, not, List, [], ◌∷◌, ◌++◌, ◌≤◌, ◌||◌, ◌⊎◌, None, Some, cond}
+use Rattle.std.proofs.Common.{get_or, ◌≢◌, ◌==◌, Bool, true, false, not, List, [], ◌∷◌, ◌++◌, ◌≤◌, ◌||◌, ◌⊎◌, None}
+use Rattle.std.proofs.Common.{Some, cond}
 use Rattle.std.proofs.{Common.{nat_le, encode_utf8, map, Option, eqb-true}, Math.Seq.{take-length}}
-use Rattle.std.proofs.lemmas.{List.{take_rest, Folds.{list_all-append}}, Bool.{agree_below_at, false≢true}}
+use Rattle.std.proofs.lemmas.{List.{drop_more, take_rest, Folds.{list_all-append}}, Bool.{agree_below_at, false≢true}}
 use Rattle.std.proofs.lemmas.List.Sums.{prefix_len-le-length, prefix_len_passes, suffix_len-le-length}
-use Rattle.std.proofs.lemmas.Str.{chars_past_char, encodes-chars}
-use Rattle.std.specs.{Str.{IsUtf8, chars, Pattern.{HasCharAt}}, Char.{to_ascii_lowercase}, List.{list_all, prefix_len}}
+use Rattle.std.proofs.lemmas.Str.{chars_past_char, encode_ascii, encodes-chars}
+use Rattle.std.specs.{Str.{IsUtf8, chars}, Char.{to_ascii_lowercase}, List.{list_all, prefix_len}}
 use Rattle.data_url.specs.{CodePoints.{is_http_whitespace, is_quotable, is_token}, Url.{without_end, without_start}}
 use Rattle.data_url.specs.Mime.{Every, unless_empty, BeginsParameters, IsHead, is_token_text, valid_of}
 use Rattle.data_url.specs.Steps.Parsing.{DoesNotEnd, front_of, in_value, is_escaped, is_quotable_byte, is_unquoted_byte}
@@ -14,7 +15,7 @@ use Rattle.data_url.specs.Steps.Parsing.{item_in, named, pair_if, reading, readi
 use Rattle.data_url.specs.Steps.Parsing.{unescaped, HasNoHead, IsTokens, after_char, in_name}
 use Rattle.data_url.proofs.{examples.Literals.{on_literals}, texts.CodePoints.{same_empty, trimmed_end_is, IsCutInto}}
 use Rattle.data_url.proofs.{texts.CodePoints.{IsSteady, cut_front, front_further, front_passes}, mime.Items.{has_parts}}
-use Rattle.data_url.proofs.{mime.{Items.{trimmed_of}, TokenTexts.{values_steady, whole_front}}, runs.Runs.{match_map}}
+use Rattle.data_url.proofs.{mime.{Items.{trimmed_of}, TokenTexts.{values_steady, whole_front}}}
 use Rattle.data_url.proofs.mime.TokenTexts.{all_from_every, spaces_end, spaces_steady, tokens}
 use lib.Utf8.{encode}
 
@@ -130,16 +131,26 @@ verbatim bytes text n u e f =
 -- the lemmas for `read_plain`
 pub ruleset plain_values = (cut_plain, no_value, some_value)
 
--- if the bytes of a text begin with those of c, its code points begin with c
-pub has_mark : (bs rest : List ℕ) (c n : ℕ) → IsUtf8 bs → HasCharAt c bs 0 n → rest ≡ drop n bs
-    → after_char c (chars bs) ≡ Some (chars rest)
-has_mark bs rest c n u h e = grind (arith, chars_past_char bs (drop n bs) c u h.split)
+-- if a text begins with an ASCII byte, its code points begin with it
+pub first_char : (bs : List ℕ) (c : ℕ) → IsUtf8 bs → c < 128 → 0 < length bs → get_or bs 0 0 ≡ c
+    → after_char c (chars bs) ≡ Some (chars (drop 1 bs))
+first_char bs c u l n e =
+    grind (
+      arith,
+      chars_past_char bs (drop 1 bs) c u (drop_more bs 0 0 n ∙ ap (λ x. x ∷ drop 1 bs) e
+          ∙ ap (λ x. x ++ drop 1 bs) (sym (encode_ascii c l))),
+    )
 
--- if the bytes of a text do not begin with those of c, its code points do not begin with c
-pub no_mark : (cs : List ℕ) (c : ℕ) → ((rest : List ℕ) → encode_utf8_all cs ≡ encode_utf8 c ++ rest → ⊥)
+-- if an encoded text is empty or begins with another byte, the text does not begin with it
+no_first : (cs bs : List ℕ) (c : ℕ) → encode_utf8_all cs ≡ bs → c < 128 → (length bs ≡ 0) ⊎ (get_or bs 0 0 ≢ c)
     → after_char c cs ≡ None
-no_mark [] c n = refl
-no_mark (b ∷ cs) c n = grind (arith, eqb-true, n (encode_utf8_all cs))
+no_first [] bs c e l n = refl
+no_first (b ∷ cs) bs c e l n = grind (arith, eqb-true, encode_ascii)
+
+-- if a text is empty or begins with another byte, its code points do not begin with it
+pub no_first_char : (bs : List ℕ) (c : ℕ) → IsUtf8 bs → c < 128 → (length bs ≡ 0) ⊎ (get_or bs 0 0 ≢ c)
+    → after_char c (chars bs) ≡ None
+no_first_char bs c u l n = no_first (chars bs) bs c (encodes-chars bs u) l n
 
 -- if a text is not empty and does not begin with ';', it does not begin parameters
 not_begins : (s : List ℕ) → after_char 59 s ≡ None → (length s == 0) ≡ false → BeginsParameters s → ⊥
@@ -222,11 +233,8 @@ plain_head_is s t b e = record {
   begins = front_begins t e.back (subst BeginsParameters e.joined b);
 }
 
--- where a text begins with a code point
-pub ruleset marks = (encodes-chars, match_map, has_mark, no_mark)
-
 -- the lemmas for `cuts.rt`
-pub ruleset cuts = (marks, tokens, spaces_end, spaces_steady, values_steady, suffix_len-le-length, length-take-le)
+pub ruleset cuts = (tokens, spaces_end, spaces_steady, values_steady, suffix_len-le-length, length-take-le)
 
 -- the lemmas for `read_head`
 pub ruleset heads = (same_empty, begins_empty, begins_mark, is_head, no_parameters, no_slash, no_subtype, no_type)

@@ -1,16 +1,15 @@
 -- Parts that are written, one after another. For `in_parts.rt`.
 use Rattle.std.proofs.Common.{◌≡◌, ◌+◌, ◌^◌, ◌≤◌, ◌<◌, ◌==◌, ◌&&◌, ◌++◌, ◌∷◌, [], Bool, List, ap, arith, drop}
-use Rattle.std.proofs.Common.{Err, Ok, Result, inr, if◌then◌else◌, false, get_or, length, set, length-append}
+use Rattle.std.proofs.Common.{Err, Ok, Result, inr, if◌then◌else◌, false, get_or, length, length-append}
 use Rattle.std.proofs.Common.{length-drop, length-take, map, not, refl, sym, take, true, ◌∙◌, ℕ, ap₂, append_assoc}
-use Rattle.std.proofs.Common.{append-nil, encode_utf8_all, suc, zero, subst, codes}
-use Rattle.std.proofs.lemmas.List.{drop_all, drop_more, length-map, map-append, take_more}
-use Rattle.std.proofs.Common.{length-take-le}
-use Rattle.std.proofs.Math.Seq.{set-append_seam}
+use Rattle.std.proofs.Common.{append-nil, drop-drop, encode_utf8_all, suc, zero, subst, codes}
+use Rattle.std.proofs.lemmas.List.{drop_all, drop_more, length-map}
+use Rattle.std.proofs.lemmas.Simd.{put_chunk_is}
 use Rattle.std.proofs.lemmas.Slice.{drop-append-drop}
 use Rattle.std.proofs.lemmas.Str.{encodes-chars, encodes-IsAscii}
 use Rattle.std.proofs.lemmas.Str.Ascii.{IsAscii-map, lowercase_ascii}
 use Rattle.std.proofs.Math.Seq.{take-append_seam}
-use Rattle.std.specs.Int.{to_le_bytes, w64}
+use Rattle.std.specs.{Int.{to_le_bytes, w64}, Simd.Lanes.{put_chunk}}
 use Rattle.std.specs.{Char.{to_ascii_lowercase}, List.{flat_map}, Str.{IsAscii, IsUtf8, chars}}
 use Rattle.data_url.specs.Mime.{IsRecordOfParts, Item, Items, Pair as MimePair, Record, default_record}
 use Rattle.data_url.specs.Mime.{is_token_text, kept_pairs}
@@ -49,6 +48,21 @@ puts_both {a} {b} v w = record {
   writes = writes_both v.writes w.writes;
 }
 
+-- a piece that lanes write
+pub puts_chunk : {bytes piece : List ℕ} (at : ℕ) (old : List ℕ) {end : ℕ} → bytes ≡ piece → Adds piece at end
+    → end ≤ length old → length old < 2 ^ 63 → Puts piece old at (put_chunk at old bytes) end
+puts_chunk {bytes} {piece} at old {end} e h l s =
+    let size : end ≡ at + length piece = omega (arith, h, l, s) in
+    let written = put_chunk_is at old piece (omega (arith, size, l)) in
+    let after : drop (length piece) (drop at old) ≡ drop end old =
+    drop-drop (length piece) at old ∙ ap (λ n. drop n old) (omega (arith, size)) in
+    record {
+      end_is = h;
+      writes = record {
+        fits = λ f. (size, ap (put_chunk at old) e ∙ written ∙ ap (λ x. take at old ++ (piece ++ x)) after);
+      };
+    }
+
 -- Texts
 
 -- a token text in lower case is encoded as its bytes in lower case
@@ -65,62 +79,30 @@ ascii_part : (s : List ℕ) → is_token_text s ≡ true → part s ≡ part (en
 ascii_part s h = ap part (sym (encodes-IsAscii s (token_text_ascii s h)))
 
 -- a part: its length, and then its text
-pub puts_part : (text size : List ℕ) {old mid new : List ℕ} {at k end : ℕ} → size ≡ to_le_bytes w64 (length text)
-    → Puts size old at mid k → Puts text mid k new end → Puts (part text) old at new end
+pub puts_part : (text : List ℕ) {old mid new : List ℕ} {at k end : ℕ}
+    → Puts (to_le_bytes w64 (length text)) old at mid k → Puts text mid k new end → Puts (part text) old at new end
 unfolding part
-puts_part text size {old} {mid} {at = at} {k = k} e v w =
-    puts_both (subst (λ x. Puts x old at mid k) e v) w
+puts_part text v w = puts_both v w
 
 -- a part, whose text is encoded
-pub puts_text : (text bytes size : List ℕ) {old mid new : List ℕ} {at k end : ℕ} → IsUtf8 text → bytes ≡ text
-    → size ≡ to_le_bytes w64 (length text) → Puts size old at mid k → Puts bytes mid k new end
+pub puts_text : (text bytes : List ℕ) {old mid new : List ℕ} {at k end : ℕ} → IsUtf8 text → bytes ≡ text
+    → Puts (to_le_bytes w64 (length text)) old at mid k → Puts bytes mid k new end
     → Puts (part (encode_utf8_all (chars text))) old at new end
-puts_text text bytes size {old} {mid} {new} {at} {k} {end} u e f v w =
+puts_text text bytes {old} {mid} {new} {at} {k} {end} u e v w =
     subst (λ x. Puts (part x) old at new end) (sym (encodes-chars text u))
-    (puts_part text size f v (subst (λ x. Puts x mid k new end) e w))
+    (puts_part text v (subst (λ x. Puts x mid k new end) e w))
 
 -- a part in lower case, whose text is encoded
-pub puts_lower_part : (text bytes size : List ℕ) {old mid new : List ℕ} {at k end : ℕ} → IsUtf8 text
-    → is_token_text (chars text) ≡ true → bytes ≡ text → size ≡ to_le_bytes w64 (length text)
-    → Puts size old at mid k → Puts (map to_ascii_lowercase bytes) mid k new end
+pub puts_lower_part : (text bytes : List ℕ) {old mid new : List ℕ} {at k end : ℕ} → IsUtf8 text
+    → is_token_text (chars text) ≡ true → bytes ≡ text → Puts (to_le_bytes w64 (length text)) old at mid k
+    → Puts (map to_ascii_lowercase bytes) mid k new end
     → Puts (part (encode_utf8_all (map to_ascii_lowercase (chars text)))) old at new end
-puts_lower_part text bytes size {old} {mid} {new} {at} {k} {end} u h e f v w =
+puts_lower_part text bytes {old} {mid} {new} {at} {k} {end} u h e v w =
     let lower = map to_ascii_lowercase text in
     let w' : Puts lower mid k new end = subst (λ x. Puts (map to_ascii_lowercase x) mid k new end) e w in
+    let size : length text ≡ length lower = sym (length-map text to_ascii_lowercase) in
     subst (λ x. Puts (part x) old at new end) (sym (lower_encoded text u h))
-    (puts_part lower size (f ∙ ap (to_le_bytes w64) (sym (length-map text to_ascii_lowercase))) v w')
-
--- the first bytes of a text are written in lower case
-abbrev pub Lowers : List ℕ → ℕ → List ℕ → ℕ → List ℕ → Type 0
-Lowers bytes at old n new = new ≡ take at old ++ (map to_ascii_lowercase (take n bytes) ++ drop (at + n) old)
-
--- one byte more
-pub lowers_next : (bytes old : List ℕ) (at n : ℕ) {new : List ℕ} → at + length bytes ≤ length old → n < length bytes
-    → Lowers bytes at old n new → Lowers bytes at old (n + 1) (set new (at + n) (to_ascii_lowercase (get_or bytes n 0)))
-lowers_next bytes old at n {new} f l h =
-    let done = map to_ascii_lowercase (take n bytes) in
-    let b = to_ascii_lowercase (get_or bytes n 0) in
-    let front = take at old ++ done in
-    let size : length front ≡ at + n =
-    length-append (take at old) done ∙ omega (
-      arith,
-      length-take-le at old (omega (arith, f)),
-      length-map (take n bytes) to_ascii_lowercase,
-      length-take-le n bytes (omega (arith, l)),
-    ) in
-    let rest : drop (at + n) old ≡ get_or old (at + n) 0 ∷ drop (at + n + 1) old = drop_more old (at + n) 0
-    (omega (arith, f, l)) in
-    let new_is : new ≡ front ++ get_or old (at + n) 0 ∷ drop (at + n + 1) old =
-    h ∙ sym (append_assoc (take at old) done (drop (at + n) old)) ∙ ap (λ x. front ++ x) rest in
-    let lower : map to_ascii_lowercase (take (n + 1) bytes) ≡ done ++ (b ∷ []) =
-    ap (map to_ascii_lowercase) (take_more bytes n 0 l)
-    ∙ map-append to_ascii_lowercase (take n bytes) (get_or bytes n 0 ∷ [])
-    in
-    ap₂ (λ x i. set x i b) new_is (sym size)
-    ∙ set-append_seam front (get_or old (at + n) 0) (drop (at + n + 1) old) b
-    ∙ append_assoc (take at old) done (b ∷ drop (at + n + 1) old)
-    ∙ ap (λ x. take at old ++ x) (sym (append_assoc done (b ∷ []) (drop (at + n + 1) old)))
-    ∙ ap₂ (λ x i. take at old ++ (x ++ drop i old)) (sym lower) (omega arith)
+    (puts_part lower (subst (λ n. Puts (to_le_bytes w64 n) old at mid k) size v) w')
 
 -- Values of quoted strings
 
@@ -139,17 +121,17 @@ unescaped_short false (c ∷ s) = grind (arith, unescaped_short false s, unescap
 unescaped_short true (c ∷ s) = grind (arith, unescaped_short false s)
 
 -- the value of a quoted string, as a part, whose text is encoded
-pub puts_quoted : (quoted bytes size : List ℕ) {old mid new out : List ℕ} {at k end len : ℕ} → IsUtf8 quoted
-    → bytes ≡ quoted → length bytes < 2 ^ 63 → Puts (unescaped false bytes) [] 0 out len → size ≡ to_le_bytes w64 len
-    → Puts size old at mid k → Puts (unescaped false bytes) mid k new end
+pub puts_quoted : (quoted bytes : List ℕ) {old mid new out : List ℕ} {at k end len : ℕ} → IsUtf8 quoted
+    → bytes ≡ quoted → length bytes < 2 ^ 63 → Puts (unescaped false bytes) [] 0 out len
+    → Puts (to_le_bytes w64 len) old at mid k → Puts (unescaped false bytes) mid k new end
     → Puts (part (encode_utf8_all (unescaped false (chars quoted)))) old at new end
-puts_quoted quoted bytes size {old} {mid} {new} {at = at} {k = k} {end = end} {len = len} u e l counted f v w =
+puts_quoted quoted bytes {old} {mid} {new} {at = at} {k = k} {end = end} {len = len} u e l counted v w =
     let value = unescaped false bytes in
     let same : len ≡ length value = omega (arith, counted.end_is, unescaped_short false bytes) in
     let text : value ≡ encode_utf8_all (unescaped false (chars quoted)) =
     sym (value_encodes u (ap (unescaped false) e)) in
     subst (λ x. Puts (part x) old at new end) text
-    (puts_part value size (f ∙ ap (to_le_bytes w64) same) v w)
+    (puts_part value (subst (λ n. Puts (to_le_bytes w64 n) old at mid k) same v) w)
 
 module _ {quoted old mid : List ℕ} {e : Bool} {i at k : ℕ} (h : Unescaped quoted e i old at mid k) where
   module _ {e' : Bool} (l : i < length quoted) (f : e' ≡ ((get_or quoted i 0 == 92) && not e)) where
@@ -193,31 +175,6 @@ parts_next (p ∷ pairs) zero l = append-nil (parts_of_pair p)
 parts_next (p ∷ pairs) (suc i) l = ap (λ x. parts_of_pair p ++ x) (parts_next pairs i (omega arith))
     ∙ sym (append_assoc (parts_of_pair p) (flat_map parts_of_pair (take i pairs))
     (parts_of_pair (get_or pairs i ([], []))))
-
--- the length of a part
-pub part_length : (text : List ℕ) → length (part text) ≡ 8 + length text
-unfolding part
-part_length text = omega arith
-
--- the lengths of the parts of one pair more
-pub adds_pair : (pairs : List MimePair) (i at : ℕ) {k k' end : ℕ} (p : MimePair)
-    → Adds (flat_map parts_of_pair (take i pairs)) at k → i < length pairs → get_or pairs i ([], []) ≡ p
-    → Adds (part (encode_utf8_all p.0)) k k' → Adds (part (encode_utf8_all p.1)) k' end
-    → Adds (flat_map parts_of_pair (take (i + 1) pairs)) at end
-adds_pair pairs i at p h l e v w =
-    let one : suc i ≡ i + 1 = omega arith in
-    let done = flat_map parts_of_pair (take i pairs) in
-    let more = ap length (parts_next pairs i l) ∙ length-append done (parts_of_pair (get_or pairs i ([], [])))
-    ∙ ap (λ q. length done + length (parts_of_pair q)) e in
-    omega (
-      arith,
-      h,
-      v,
-      w,
-      more,
-      ap (λ n. length (flat_map parts_of_pair (take n pairs))) one,
-      length-append (part (encode_utf8_all p.0)) (part (encode_utf8_all p.1)),
-    )
 
 -- one pair more
 pub puts_pair : (pairs : List MimePair) (i : ℕ) {old mid mid' new : List ℕ} {at k k' end : ℕ} (p : MimePair)

@@ -1,7 +1,7 @@
 //! Where texts are cut: at HTTP whitespace, at a character and after token code points (MIME Sniffing Standard, section 3).
 #![tactic(auto, using(crate::proofs::mime::Parsing::cuts))]
 
-ghost use Rattle.std.specs.{Prelude.{◌≡◌, [], None, Some, MatchOption, length, take}, Str.{chars}};
+ghost use Rattle.std.specs.{Prelude.{◌≡◌, ◌<◌, [], None, Some, MatchOption, length, take}, Str.{chars}};
 ghost use Rattle.data_url.specs.{CodePoints.{is_http_whitespace, is_token}, Mime.{is_token_text}};
 ghost use Rattle.data_url.specs.Url.{without_end, without_start};
 ghost use Rattle.data_url.specs.Steps.Parsing.{IsTokens, IsTrimmedEnd, after_char, front_of, in_name, in_value};
@@ -24,13 +24,18 @@ pub(super) fn without_trailing_whitespace(text: &str) -> &str
     &text[..text.len() - end_span(Class::Whitespace, text.as_bytes())]
 }
 
-/// The text after a character, if the text begins with it.
+/// The text after an ASCII character, if the text begins with it.
 #[inline(always)]
-pub(super) fn after_char(text: &str, c: char) -> Option<&str>
+pub(super) fn after_char(text: &str, c: u8) -> Option<&str>
+    requires { c < 128 }
     ensures { MatchOption result (after_char c (chars text.now) ≡ None)
         (λ rest. after_char c (chars text.now) ≡ Some (chars rest.now)) }
 {
-    text.strip_prefix(c)
+    let bytes = text.as_bytes();
+    if bytes.is_empty() || bytes[0] != c {
+        return None;
+    }
+    Some(&text[1..])
 }
 
 /// The text from its first `;` on.

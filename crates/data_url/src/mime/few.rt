@@ -51,7 +51,7 @@ impl<'a> FewParameters<'a> {
         ensures { MatchBool result (IsKept (chars text.now) self.new) (AreMany (chars text.now)) }
     {
         let mut rest = text;
-        while let Some(after) = after_char(rest, ';') {
+        while let Some(after) = after_char(rest, b';') {
             let parameter = read_parameter(after);
             rest = parameter.rest;
             if !self.add(&parameter) {

@@ -1,20 +1,19 @@
 //! MIME types in parts: each text after its length.
 
 ghost use Rattle.std.specs.Prelude.{◌≡◌, ◌+◌, ◌<◌, IfErr, IfOk, IsTrue, List, encode_utf8_all, false, length, map};
-ghost use Rattle.std.specs.{Char.{to_ascii_lowercase}, List.{flat_map}, Str.{chars}};
+ghost use Rattle.std.specs.{Char.{to_ascii_lowercase}, Int.{to_le_bytes, w64}, List.{flat_map}, Str.{chars}};
 ghost use Rattle.data_url.specs.Mime.{BeginsParameters, IsRecordOfParts, default_record, is_token_text};
 ghost use Rattle.data_url.specs.Parts.{ReadsMimeType, WritesIfFits, part, parts_of, parts_of_pair};
 ghost use Rattle.data_url.specs.{MimeType.{pair_of}, Steps.Parsing.{unescaped}};
 ghost use Rattle.data_url.specs.Steps.{Few.{AreAllTokens, sliced_pair, value_text}, MimeParts.{Adds, HasTokens, Puts, WritesParts, WritesRecord, head_record, pairs_in}};
 
 use super::few::{FewParameters, NameAndValue};
+use super::lower::copy_lowercase;
 use super::parse::{Head, read_head, read_parameters};
 use super::values::Value;
 use super::{MimeFromStrError, MimeParsingError};
 use std::alloc::{AllocError, Global};
-
-/// How many bytes the length of a part has.
-const LENGTH: usize = 8;
+use std::simd::prelude::*;
 
 /// The most bytes that parts have together.
 const LONGEST: usize = 0x7fff_ffff_ffff_ffff;
@@ -36,25 +35,35 @@ fn put(output: &mut [u8], at: usize, bytes: &[u8]) -> usize
     end
 }
 
+/// Puts a length, as eight bytes, the lowest first.
+#[inline(always)]
+fn put_length(output: &mut [u8], at: usize, len: usize) -> usize
+    ensures { Puts (to_le_bytes w64 len) output.old at output.new result }
+{
+    let end = at.saturating_add(8);
+    if end <= output.len() {
+        u8x8::from_array(len.to_le_bytes()).copy_to_slice(&mut output[at..]);
+    }
+    end
+}
+
 /// Puts a text, as a part.
 #[inline(always)]
 fn put_text(output: &mut [u8], at: usize, text: &str) -> usize
     ensures { Puts (part (encode_utf8_all (chars text.now))) output.old at output.new result }
 {
-    let at = put(output, at, &text.len().to_le_bytes());
+    let at = put_length(output, at, text.len());
     put(output, at, text.as_bytes())
 }
 
-/// Puts bytes in ASCII lower case. For texts as short as types and names, a loop is faster than a copy that is put into lower case.
+/// Puts bytes in ASCII lower case.
 #[inline(always)]
 fn put_lower(output: &mut [u8], at: usize, bytes: &[u8]) -> usize
     ensures { Puts (map to_ascii_lowercase bytes.now) output.old at output.new result }
 {
     let end = at.saturating_add(bytes.len());
     if end <= output.len() {
-        for (place, byte) in bytes.iter().enumerate() {
-            output[at + place] = byte.to_ascii_lowercase();
-        }
+        copy_lowercase(bytes, &mut output[at..end]);
     }
     end
 }
@@ -66,7 +75,7 @@ fn put_lowercase(output: &mut [u8], at: usize, text: &str) -> usize
     ensures { Puts (part (encode_utf8_all (map to_ascii_lowercase (chars text.now)))) output.old at
         output.new result }
 {
-    let at = put(output, at, &text.len().to_le_bytes());
+    let at = put_length(output, at, text.len());
     put_lower(output, at, text.as_bytes())
 }
 
@@ -95,7 +104,7 @@ fn put_quoted(output: &mut [u8], at: usize, quoted: &str) -> usize
 {
     let bytes = quoted.as_bytes();
     let len = put_unescaped(&mut [], 0, bytes);
-    let at = put(output, at, &len.to_le_bytes());
+    let at = put_length(output, at, len);
     put_unescaped(output, at, bytes)
 }
 
@@ -112,6 +121,7 @@ fn put_value(output: &mut [u8], at: usize, value: &Value<'_>) -> usize
 }
 
 /// Puts the names and the values of parameters that are slices, as parts.
+#[inline(always)]
 fn put_slices(output: &mut [u8], at: usize, slices: &[NameAndValue<'_>]) -> usize
     requires { AreAllTokens slices.now }
     ensures { Puts (flat_map parts_of_pair (map (λ s. sliced_pair s) slices.now)) output.old at
@@ -138,48 +148,6 @@ fn put_pairs(output: &mut [u8], at: usize, pairs: &[(String, String)]) -> usize
     end
 }
 
-/// Adds the length of a text, as a part, to a length. The sum is at most `usize::MAX`.
-#[inline(always)]
-fn add_text(len: usize, text: &str) -> usize
-    ensures { Adds (part (encode_utf8_all (chars text.now))) len result }
-{
-    len.saturating_add(LENGTH).saturating_add(text.len())
-}
-
-/// Adds the length of a text of token code points in ASCII lower case, as a part, to a length.
-#[inline(always)]
-fn add_lowercase(len: usize, text: &str) -> usize
-    requires { IsTrue (is_token_text (chars text.now)) }
-    ensures { Adds (part (encode_utf8_all (map to_ascii_lowercase (chars text.now)))) len result }
-{
-    len.saturating_add(LENGTH).saturating_add(text.len())
-}
-
-/// Adds the length of a value, as a part, to a length.
-#[inline(always)]
-fn add_value(len: usize, value: &Value<'_>) -> usize
-    ensures { Adds (part (encode_utf8_all (value_text value.now))) len result }
-{
-    match value {
-        Value::Missing => add_text(len, ""),
-        Value::Plain(text) | Value::Verbatim(text) => add_text(len, text),
-        Value::Quoted(text) => put_quoted(&mut [], len, text),
-    }
-}
-
-/// Adds the lengths of names and values that are slices, as parts, to a length.
-fn add_slices(len: usize, slices: &[NameAndValue<'_>]) -> usize
-    requires { AreAllTokens slices.now }
-    ensures { Adds (flat_map parts_of_pair (map (λ s. sliced_pair s) slices.now)) len result }
-{
-    let mut end = len;
-    for slice in slices {
-        end = add_lowercase(end, slice.name);
-        end = add_value(end, &slice.value);
-    }
-    end
-}
-
 /// The parameters that are kept of a MIME type.
 #[derive(Clone, Copy)]
 enum Parameters<'a> {
@@ -190,8 +158,9 @@ enum Parameters<'a> {
 }
 
 impl<'a> Head<'a> {
-    /// Puts the record of a MIME type with these parts and parameters at the start of an output that has room for it. Returns how many
-    /// bytes it has.
+    /// Puts the record of a MIME type with these parts and parameters, in parts, at the start of an output. Returns how many bytes it
+    /// has, up to `usize::MAX`. It is compiled into its caller, where nothing but this length is left of it if the output is empty.
+    #[inline(always)]
     fn put(&self, parameters: Parameters<'_>, output: &mut [u8]) -> usize
         requires type_ { IsTrue (is_token_text (chars self.now.type_.now)) }
         requires subtype { IsTrue (is_token_text (chars self.now.subtype.now)) }
@@ -207,21 +176,6 @@ impl<'a> Head<'a> {
         }
     }
 
-    /// Returns how many bytes the record of a MIME type with these parts and parameters has in parts, up to `usize::MAX`.
-    #[inline(always)]
-    fn len(&self, parameters: Parameters<'_>) -> usize
-        requires type_ { IsTrue (is_token_text (chars self.now.type_.now)) }
-        requires subtype { IsTrue (is_token_text (chars self.now.subtype.now)) }
-        requires tokens { HasTokens parameters }
-        ensures { Adds (parts_of (head_record self.now (pairs_in parameters.entry))) 0 result }
-    {
-        let len = add_lowercase(add_lowercase(0, self.type_), self.subtype);
-        match parameters {
-            Parameters::OfText(slices) => add_slices(len, slices),
-            Parameters::OfRecord(pairs) => put_pairs(&mut [], len, pairs),
-        }
-    }
-
     /// Writes the record of a MIME type with these parts and parameters, in parts, to the start of an output that has room for it.
     /// Returns how many bytes it has, or an error if they are more than `LONGEST`.
     fn write_with(&self, parameters: Parameters<'_>, output: &mut [u8]) -> Result<usize, AllocError>
@@ -231,7 +185,7 @@ impl<'a> Head<'a> {
         ensures { WritesRecord (head_record self.now (pairs_in parameters.entry)) output.old
             output.new result }
     {
-        let len = self.len(parameters);
+        let len = self.put(parameters, &mut []);
         if len > LONGEST {
             return Err(AllocError);
         }

@@ -13,7 +13,8 @@ use super::cuts::{
     without_trailing_whitespace,
 };
 use super::kept::{FINGERPRINTS_LEN, KeptParameters};
-use super::values::{Value, lowercased};
+use super::lower::lowercased;
+use super::values::Value;
 use crate::classes::{Class, long_span, span, span_if_any};
 use std::alloc::{AllocError, Global};
 use std::collections::BTreeSet;
@@ -65,10 +66,10 @@ pub(crate) fn read_head(text: &str) -> Option<Head<'_>>
 {
     let text = without_trailing_whitespace(without_leading_whitespace(text));
     let (type_, rest) = split_tokens(text)?;
-    let (subtype, rest) = split_tokens(after_char(rest, '/')?)?;
+    let (subtype, rest) = split_tokens(after_char(rest, b'/')?)?;
     let parameters = without_leading_whitespace(rest);
     if !parameters.is_empty() {
-        after_char(parameters, ';')?;
+        after_char(parameters, b';')?;
     }
     Some(Head {
         type_,
@@ -92,13 +93,14 @@ pub(crate) fn plain_head(parameters: &str) -> Head<'_>
 }
 
 /// Returns the parameter that a text begins with, after its `;`.
+#[inline(always)]
 pub(super) fn read_parameter(text: &str) -> Parameter<'_>
     ensures token { result.is_token ≡ is_token_text (chars result.name.now) }
     ensures pair { pair_in result ≡ valid_of (item_in (chars text.now)) }
     ensures rest { chars result.rest.now ≡ (reading_in (chars text.now)).rest }
 {
     let (name, is_token, rest) = split_name(without_leading_whitespace(text));
-    let (value, rest) = match after_char(rest, '=') {
+    let (value, rest) = match after_char(rest, b'=') {
         Some(given) => read_value(given),
         None => (Value::Missing, rest),
     };
@@ -111,11 +113,12 @@ pub(super) fn read_parameter(text: &str) -> Parameter<'_>
 }
 
 /// Returns the value after a `=`, and the text after it.
+#[inline(always)]
 fn read_value(text: &str) -> (Value<'_>, &str)
     ensures value { value_of result.0 ≡ quotable_value (given_reading (chars text.now)).value }
     ensures rest { chars result.1.now ≡ (given_reading (chars text.now)).rest }
 {
-    let Some(quoted) = after_char(text, '"') else {
+    let Some(quoted) = after_char(text, b'"') else {
         return read_plain(text);
     };
     let (text, is_verbatim, after) = split_quote(quoted);
@@ -193,7 +196,7 @@ pub(super) fn read_parameters(
         later_names: BTreeSet::new(alloc),
     };
     let mut rest = text;
-    while let Some(after) = after_char(rest, ';') {
+    while let Some(after) = after_char(rest, b';') {
         let parameter = read_parameter(after);
         rest = parameter.rest;
         keep(alloc, &mut kept, &parameter)?;

@@ -1,9 +1,11 @@
 //! Values of parameters, as slices of a text and as texts of their own.
-#![tactic(auto, using(crate::proofs::mime::FirstNames::lower_chars, crate::proofs::mime::Parsing::quotable_values))]
+#![tactic(auto, using(crate::proofs::mime::Parsing::quotable_values))]
 
-ghost use Rattle.std.specs.Prelude.{◌≡◌, ◌<◌, ◌≤◌, ◌+◌, ◌-◌, ◌++◌, IfOk, IsTrue, MatchBool, None, Some, drop, false, length, map, take, true};
-ghost use Rattle.std.specs.{Char.{to_ascii_lowercase}, List.{list_all}, Option.{option_map}, Str.{chars}};
-ghost use Rattle.data_url.specs.{CodePoints.{is_quotable}, Mime.{is_token_text}, Steps.Few.{value_text}, Steps.Parsing.{unescaped, value_of}, MimeType.{code_points}};
+ghost use Rattle.std.specs.Prelude.{◌≡◌, ◌<◌, ◌≤◌, ◌+◌, ◌-◌, ◌++◌, IfOk, MatchBool, None, Some};
+ghost use Rattle.std.specs.Prelude.{drop, false, length, take};
+ghost use Rattle.std.specs.{List.{list_all}, Option.{option_map}, Str.{chars}};
+ghost use Rattle.data_url.specs.{CodePoints.{is_quotable}, Steps.Few.{value_text}};
+ghost use Rattle.data_url.specs.{MimeType.{code_points}, Steps.Parsing.{unescaped, value_of}};
 
 use crate::classes::lanes::{ROW, is_unmarked, outside, put, repeated, row};
 use crate::classes::{Class, UNESCAPED, has, long_span};
@@ -118,14 +120,4 @@ fn copy_rows(text: &[u8], value: &mut [u8], len: usize) -> usize
         copied += ROW;
     }
     copied
-}
-
-/// A text of token code points, in ASCII lower case.
-pub(super) fn lowercased(alloc: Global, text: &str) -> Result<String, AllocError>
-    requires { IsTrue (is_token_text (chars text.now)) }
-    ensures { IfOk result (λ lower. code_points lower ≡ map to_ascii_lowercase (chars text.now)) }
-{
-    let mut lower = String::from_str(alloc, text)?;
-    lower.make_ascii_lowercase();
-    Ok(lower)
 }

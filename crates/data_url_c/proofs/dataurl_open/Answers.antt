@@ -1,6 +1,6 @@
 use Rattle.std.proofs.Common.{refl}
 use Rattle.data_url_c.specs.Forms.{serialised}
-use Rattle.data_url_c.specs.declared.refusal.Refusal.TheVariants.{NotUtf8}
+use Rattle.data_url_c.specs.declared.answer.Refusal.TheVariants.{NotUtf8}
 use Rattle.data_url_c.proofs.OpenLemmas.{opens_refused}
 use Rattle.data_url_c.proofs.dataurl_open.Goals as goal
 

@@ -1,6 +1,6 @@
 use Rattle.std.proofs.Common.{Err}
 use Rattle.data_url_c.specs.Gives.{GivesTypeInParts}
-use Rattle.data_url_c.specs.declared.refusal.Refusal.TheVariants.{NotUtf8}
+use Rattle.data_url_c.specs.declared.answer.Refusal.TheVariants.{NotUtf8}
 use Rattle.data_url_c.proofs.GivenLemmas.{answers}
 use Rattle.data_url_c.proofs.dataurl_type_parts.Goals as goal
 

@@ -6,7 +6,7 @@ use Rattle.data_url_c.specs.Answers.{Crosses}
 use Rattle.data_url_c.specs.Opens.{HasNoTail, answer_of}
 use Rattle.data_url_c.specs.declared.answer.DataUrlAnswer.{DataUrlAnswer}
 use Rattle.data_url_c.specs.declared.open.DataUrlOpened.{DataUrlOpened}
-use Rattle.data_url_c.specs.declared.refusal.Refusal.{Refusal}
+use Rattle.data_url_c.specs.declared.answer.Refusal.{Refusal}
 
 -- the result for a text that is not a data: URL
 pub record IsRefused (refusal : Refusal) (old new : List ℕ) (r : DataUrlOpened) : Type 0 where

@@ -1,5 +1,5 @@
 use Rattle.std.proofs.{Common.{arith, rules}, lemmas.{List.{take_rest}, Slice.Eq.{bytes_eq-Decides}}}
-use Rattle.data_url.proofs.header.Serialising.{HasWord, suffixes, with_semicolon}
+use Rattle.data_url.proofs.header.Serialising.{HasWord, with_semicolon}
 use Rattle.data_url.proofs.header.without_suffix.Goals as goal
 
 pub returns-clause-text : goal.returns-clause-text
