@@ -1,9 +1,9 @@
-//! Makes the public calls of the library on many texts, and writes what they return. A check compares that with the answers of the
-//! standards.
+//! Makes the public calls of the library on many texts, and writes what they return. A check compares that with the
+//! answers of the standards.
 //!
-//! Each line of standard input is a word, a space and a text in hexadecimal. The word is `url`, `mime` or `base64`. For each line
-//! this writes a line for each call: its name, a space, and what it returned. Bytes are written in hexadecimal, and those of
-//! different calls of a closure are separated by commas.
+//! Each line of standard input is a word, a space and a text in hexadecimal. The word is `url`, `mime` or `base64`. For
+//! each line this writes a line for each call: its name, a space, and what it returned. Bytes are written in
+//! hexadecimal, and those of different calls of a closure are separated by commas.
 #![tactic(auto)]
 
 ghost use Rattle.std.specs.Prelude.{◌<◌};
@@ -82,7 +82,8 @@ fn write_decode_to_vec<W: Write>(alloc: Global, url: &DataUrl<'_>, out: &mut W) 
     }
 }
 
-/// Calls `read_header`, for the length and then for the parts. Writes the parts, whether the body is base64, and the tail.
+/// Calls `read_header`, for the length and then for the parts. Writes the parts, whether the body is base64, and the
+/// tail.
 fn write_header<W: Write>(alloc: Global, text: &str, out: &mut W) -> io::Result<()> {
     write!(out, "read_header")?;
     let len = match read_header(alloc, text, &mut []) {

@@ -1,26 +1,31 @@
 //! Bodies: a closure is called with their bytes, piece by piece.
 
 ghost use Rattle.std.specs.{Prelude.{◌+◌, ◌≡◌, ◌≤◌, false, length, true}, Fn.{CalledAt}};
-ghost use Rattle.data_url.specs.Steps.{Chunks.{IsBodyPrefix, IsCallableUntilError, TakesWithin}, Holding.{FeedsUnescaped}, Tail.{IsBodyEnd}};
-ghost use Rattle.data_url.specs.{Fetch.{outcome, plain_body}, DataUrl.{Decodes}, Pieces.{walk_at_start}, Steps.Whole.{IsBodyInVec}};
+ghost use Rattle.data_url.specs.Steps.Chunks.{IsBodyPrefix, IsCallableUntilError, TakesWithin};
+ghost use Rattle.data_url.specs.Steps.Holding.{FeedsUnescaped};
+ghost use Rattle.data_url.specs.Steps.Tail.{IsBodyEnd};
+ghost use Rattle.data_url.specs.Fetch.{outcome, plain_body};
+ghost use Rattle.data_url.specs.DataUrl.{Decodes};
+ghost use Rattle.data_url.specs.Pieces.{walk_at_start};
+ghost use Rattle.data_url.specs.Steps.Whole.{IsBodyInVec};
 ghost use Rattle.data_url.specs.{Decoder.{state_of}, Steps.Parts.{DecodesPartOf, DecodesWithin}};
 
 use crate::escapes::{BUFFER_LEN, Walk};
-use crate::forgiving_base64::{DecodeError, DecodeToVecError, Decoder, LeftOver, room_for};
+use crate::forgiving_base64::{DecodeError, DecodeToVecError, Decoder, LeftOver, max_decoded_len};
 use std::alloc::{AllocError, Global};
 
-/// The most room, in bytes of the text, that is allocated first for a body that is likely to be shorter than its text.
-const FIRST_ROOM: usize = 64 * 1024;
+/// If a body is likely to be shorter than its text, room is allocated first for at most this many bytes of the text.
+const FIRST_CAPACITY: usize = 64 * 1024;
 
 /// How many bytes of a tail the decoder is fed at once, at most.
 const FED_AT_ONCE: usize = 4 * 1024;
 
-/// How many bytes of a long text are looked at before room is allocated for it.
+/// How many bytes of a long text are tested for marks before room is allocated for its body.
 const PROBED: usize = 4 * 1024;
 
-/// Calls a closure with the next bytes of a body, at most `most` of them, and at most `at_once` in each call. It goes on until the
-/// body ends, or until fewer than `BUFFER_LEN` of `most` are left: for less, bytes are not gathered. If `most` itself is less, it
-/// goes on until none is left. Returns the closure's error.
+/// Calls a closure with the next bytes of a body, at most `most` of them, and at most `at_once` in each call. It goes
+/// on until the body ends, or until fewer than `BUFFER_LEN` of `most` are left, since bytes are not gathered then. If
+/// `most` itself is less than `BUFFER_LEN`, it goes on until none is left. Returns the closure's error.
 pub(crate) fn take_within<F, E>(
     walk: &mut Walk<'_>,
     most: usize,
@@ -37,14 +42,14 @@ where
     if walk.has_ended() {
         return Ok(());
     }
-    let mut room = [0; BUFFER_LEN];
+    let mut buffer = [0; BUFFER_LEN];
     let least = if most < BUFFER_LEN { 1 } else { BUFFER_LEN };
     let mut left = most;
     'pieces: while !walk.has_ended() {
         if left < least && left < walk.rest_len() {
             break 'pieces;
         }
-        let Some(bytes) = walk.next_bytes(&mut room, left.max(1).min(at_once)) else {
+        let Some(bytes) = walk.next_bytes(&mut buffer, left.max(1).min(at_once)) else {
             break 'pieces;
         };
         take(bytes)?;
@@ -53,8 +58,8 @@ where
     Ok(())
 }
 
-/// Calls a closure with the prefix of a body, if it is not empty, and then with the bytes after it, at most `most` of these, as
-/// `take_within` does. Returns the first error of the closure.
+/// Calls a closure with the prefix of a body, if it is not empty, and then with the bytes after it, at most `most` of
+/// these, as `take_within` does. Returns the first error of the closure.
 pub(crate) fn take_after<F, E>(
     prefix: &[u8],
     walk: &mut Walk<'_>,
@@ -74,8 +79,9 @@ where
     take_within(walk, most, usize::MAX, take)
 }
 
-/// Decodes a tail up to its first `#` or `%`, in parts of at most 4 KiB, the most that `feed_unescaped` accepts. So the decoder cannot
-/// read far past a fault. Returns the place of that byte, or the length of the tail.
+/// Decodes a tail up to its first `#` or `%`, in parts of at most 4 KiB, which is the most that `feed_unescaped`
+/// accepts. So the decoder cannot read far past a fault. Returns the place of the `#` or `%`, or the length of the
+/// tail.
 fn feed_front<F, E>(decoder: &mut Decoder<F, E>, tail: &[u8]) -> Result<usize, DecodeError<E>>
 where
     F: FnMut(&[u8]) -> Result<(), E>,
@@ -106,8 +112,8 @@ pub(crate) enum Stop {
     Ended(usize),
 }
 
-/// Feeds a decoder the next bytes of a body, at most a number of them; they end as `take_within` says. Ends the text if the body
-/// ends. The text before the first `%` and `#` of the tail is decoded where it is.
+/// Feeds a decoder the next bytes of a body, at most `most` of them, and stops as `take_within` does. Ends the text if
+/// the body ends. What comes before the first `%` or `#` of the tail is decoded where it is, without a copy.
 fn decode_within<F, E>(
     decoder: &mut Decoder<F, E>,
     tail: &[u8],
@@ -151,8 +157,8 @@ where
     (place, decoder.into_closure())
 }
 
-/// Calls a closure with the next decoded bytes of a body of base64, after what is left over, as `decode_within` does. If decoding
-/// is paused, what is left over then takes the place of what was.
+/// Calls a closure with the next decoded bytes of a body of base64, after what is left over, as `decode_within` does.
+/// If decoding is paused, what is left over then takes the place of what was.
 pub(crate) fn decode_base64_part<F, E>(
     left_over: &mut LeftOver,
     tail: &[u8],
@@ -172,7 +178,8 @@ where
     stop
 }
 
-/// Calls a closure with a body that is not base64: its prefix, and the pieces after it. Returns the place where the body ends.
+/// Calls a closure with a body that is not base64: its prefix, and the pieces after it. Returns the place where the
+/// body ends.
 pub(crate) fn decode_plain<F, E>(
     prefix: &[u8],
     mut walk: Walk<'_>,
@@ -198,11 +205,11 @@ pub(crate) fn plain_to_vec(alloc: Global, tail: &[u8]) -> Result<(Vec<u8>, usize
     ensures { IsBodyInVec false tail.now result }
 {
     let (prefix, walk) = Walk::after_prefix(tail, tail.len());
-    let mut room = prefix.len();
-    if room < tail.len() && tail[room] != b'#' {
-        room = room.max(tail.len().min(FIRST_ROOM));
+    let mut capacity = prefix.len();
+    if capacity < tail.len() && tail[capacity] != b'#' {
+        capacity = capacity.max(tail.len().min(FIRST_CAPACITY));
     }
-    let Ok(mut bytes) = Vec::with_capacity(alloc, room) else {
+    let Ok(mut bytes) = Vec::with_capacity(alloc, capacity) else {
         return Err(DecodeToVecError::OutOfMemory);
     };
     let ended = decode_plain(prefix, walk, |piece: &[u8]| -> Result<(), AllocError> {
@@ -214,32 +221,35 @@ pub(crate) fn plain_to_vec(alloc: Global, tail: &[u8]) -> Result<(Vec<u8>, usize
     }
 }
 
-/// Returns how many symbols room is allocated for first: for all of the tail if it is short, or if its first bytes are symbols.
+/// Returns for how many bytes of the tail room is allocated first: for all of them if the tail is short, or if none of
+/// its first bytes is marked.
 fn first_len(tail: &[u8]) -> usize {
-    if tail.len() <= FIRST_ROOM || Walk::after_prefix(tail, PROBED).0.len() == PROBED {
+    if tail.len() <= FIRST_CAPACITY || Walk::after_prefix(tail, PROBED).0.len() == PROBED {
         return tail.len();
     }
-    FIRST_ROOM
+    FIRST_CAPACITY
 }
 
-/// Gives room back that was allocated for a fragment, if it is at least 4 KiB and half of all, or if the body is clean.
+/// Gives back room that was allocated for a fragment, if there is one. It does so if less than half of the room is used
+/// and that half is more than 4 KiB, or if no byte of the body's text is marked.
 fn shrink(tail: &[u8], body: &mut Vec<u8>, place: usize)
     ensures { body.new.items ≡ body.old.items }
 {
     let is_large = body.capacity() / 2 > body.len().max(PROBED);
     if place < tail.len() && (is_large || Walk::after_prefix(tail, tail.len()).0.len() == place) {
-        body.shrink_to(room_for(place));
+        body.shrink_to(max_decoded_len(place));
     }
 }
 
-/// Returns a body of base64 in a vector, and the place in the text where it ends. Room is allocated by the length of the text.
+/// Returns a body of base64 in a vector, and the place in the text where it ends. Room is allocated by the length of
+/// the text.
 pub(crate) fn base64_to_vec(
     alloc: Global,
     tail: &[u8],
 ) -> Result<(Vec<u8>, usize), DecodeToVecError>
     ensures { IsBodyInVec true tail.now result }
 {
-    let Ok(mut bytes) = Vec::with_capacity(alloc, room_for(first_len(tail))) else {
+    let Ok(mut bytes) = Vec::with_capacity(alloc, max_decoded_len(first_len(tail))) else {
         return Err(DecodeToVecError::OutOfMemory);
     };
     let ended = decode_base64(tail, |piece: &[u8]| -> Result<(), AllocError> {

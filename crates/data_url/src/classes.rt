@@ -1,7 +1,8 @@
 //! Classes of bytes: six are looked up in one table, the others are compared.
 
-ghost use Rattle.std.specs.{Prelude.{◌≡◌, ◌<◌, ◌≤◌, false, length, true, ℕ}, List.{prefix_len, suffix_len}};
-ghost use Rattle.data_url.specs.Steps.Classes.{in_class, is_marked};
+ghost use Rattle.std.specs.Prelude.{◌≡◌, ◌≤◌, length};
+ghost use Rattle.std.specs.List.{prefix_len, suffix_len};
+ghost use Rattle.data_url.specs.Steps.Classes.{in_class};
 
 pub(crate) mod lanes;
 
@@ -12,8 +13,8 @@ use lanes::rows_len;
 pub(crate) enum Class {
     /// Token code points: an ASCII letter, a digit or one of fifteen marks.
     Token,
-    /// The bytes of the UTF-8 of quoted-string code points: U+0080 to U+00FF begin with 0xC2 or 0xC3, and every later code
-    /// point begins with a greater byte.
+    /// The bytes of the UTF-8 of quoted-string code points: U+0080 to U+00FF begin with 0xC2 or 0xC3, and every later
+    /// code point begins with a greater byte.
     Quotable,
     /// The bytes of an unquoted value that is kept: those of `Quotable` without `;`.
     Unquoted,
@@ -38,7 +39,7 @@ pub(crate) enum Class {
     Value,
 }
 
-/// Has one byte for each byte, with a bit for each of the six classes that it is in.
+/// For each byte, the bits of those of the six classes that it is in. `has` says which bit stands for which class.
 const CLASSES: [u8; 256] = [
     32, 32, 32, 32, 32, 32, 32, 32, 32, 54, 48, 32, 32, 48, 32, 32, 32, 32, 32, 32, 32, 32, 32, 32,
     32, 32, 32, 32, 32, 32, 32, 32, 62, 47, 14, 39, 47, 47, 47, 47, 46, 46, 47, 47, 38, 47, 47, 46,
@@ -53,10 +54,11 @@ const CLASSES: [u8; 256] = [
     32, 32, 32, 32, 32, 32, 32, 32, 32, 32, 32, 32, 32, 32, 32, 32,
 ];
 
-/// For each low half of a byte, the bits of the columns in which such a byte is outside of the class `Unescaped`.
-pub(crate) const ESCAPED: [u8; 16] = [0, 0, 2, 0, 0, 0, 0, 0, 0, 0, 0, 0, 16, 0, 0, 0];
+/// The table of the class `Unescaped`, for `classified`. For each low half of a byte, it has the bits of the columns in
+/// which a byte with that half is outside the class.
+pub(crate) const UNESCAPED: [u8; 16] = [0, 0, 2, 0, 0, 0, 0, 0, 0, 0, 0, 0, 16, 0, 0, 0];
 
-/// Whether a byte is in a class.
+/// Returns whether a byte is in a class.
 #[inline(always)]
 pub(crate) fn has(class: Class, byte: u8) -> bool
     ensures { result ≡ in_class class byte }
@@ -78,7 +80,7 @@ pub(crate) fn has(class: Class, byte: u8) -> bool
     CLASSES[byte as usize] & bit != 0
 }
 
-/// How many bytes at the start are in a class.
+/// Returns how many bytes at the start are in a class.
 #[inline(always)]
 pub(crate) fn span(class: Class, bytes: &[u8]) -> usize
     ensures prefix { result ≡ prefix_len (in_class class) bytes.now }
@@ -87,7 +89,7 @@ pub(crate) fn span(class: Class, bytes: &[u8]) -> usize
     bytes.iter().take_while(|byte| has(class, **byte)).count()
 }
 
-/// How many bytes at the end are in a class.
+/// Returns how many bytes at the end are in a class.
 #[inline(always)]
 pub(crate) fn end_span(class: Class, bytes: &[u8]) -> usize
     ensures { result ≡ suffix_len (in_class class) bytes.now }
@@ -96,15 +98,16 @@ pub(crate) fn end_span(class: Class, bytes: &[u8]) -> usize
     from_end.take_while(|byte| has(class, **byte)).count()
 }
 
-/// How many bytes at the start are in a class, counted in rows of sixteen: faster than `span` if there are many.
+/// Returns how many bytes at the start are in a class. It tests rows of sixteen bytes, which is faster than `span` if
+/// there are many.
 #[inline(always)]
 pub(crate) fn long_span(class: Class, bytes: &[u8]) -> usize
     ensures prefix { result ≡ prefix_len (in_class class) bytes.now }
     ensures within { result ≤ length bytes.now }
 {
-    // For each low half of a byte, the bits of the columns in which such a byte may be outside the class. A class whose
-    // runs are short in most texts has all bits.
-    let others = match class {
+    // The table of the class, for `classified`. If a class has only short runs in most texts, its table has all bits.
+    // Then no row passes the test, and `span` counts.
+    let class_table = match class {
         Class::Quotable => [
             129, 129, 129, 129, 129, 129, 129, 129, 129, 129, 129, 129, 129, 129, 129, 193,
         ],
@@ -115,14 +118,14 @@ pub(crate) fn long_span(class: Class, bytes: &[u8]) -> usize
             129, 129, 129, 131, 129, 129, 129, 129, 129, 129, 129, 129, 131, 129, 129, 197,
         ],
         Class::Path => [0, 0, 0, 0, 0, 0, 0, 0, 0, 0, 0, 0, 0, 0, 0, 4],
-        Class::Unescaped => ESCAPED,
+        Class::Unescaped => UNESCAPED,
         _ => [255; 16],
     };
-    let rows = rows_len(others, bytes);
+    let rows = rows_len(class_table, bytes);
     rows + span(class, &bytes[rows..])
 }
 
-/// How many bytes at the start are in a class. This is faster than `long_span` if there often is none.
+/// Returns how many bytes at the start are in a class. This is faster than `long_span` if there often is none.
 #[inline(always)]
 pub(crate) fn span_if_any(class: Class, bytes: &[u8]) -> usize
     ensures prefix { result ≡ prefix_len (in_class class) bytes.now }

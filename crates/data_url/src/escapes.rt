@@ -1,10 +1,10 @@
 //! The body of a data: URL in pieces: slices of the input, and the values of escapes (URL Standard, section 1.3,
 //! percent-decode). Nothing is allocated.
 
-ghost use Rattle.std.specs.Prelude.{◌≡◌, ◌+◌, ◌*◌, ◌≤◌, ◌++◌, [], IfNone, IfSome, IsTrue, None, drop, length};
+ghost use Rattle.std.specs.Prelude.{◌≡◌, ◌+◌, ◌*◌, ◌≤◌, ◌++◌, [], IfNone, IfSome, IsTrue, None, length};
 ghost use Rattle.std.specs.Option.{option_map};
-ghost use Rattle.data_url.specs.{Pieces.{IsPiece, walk_at_start, bytes_of_next}, Url.{after, number_sign}};
-ghost use Rattle.data_url.specs.Steps.{Chunks.{GivesBytes, IsBodyFrom, IsBodyPrefix}, Tail.{IsBodyEnd}};
+ghost use Rattle.data_url.specs.Pieces.{IsPiece, walk_at_start, bytes_of_next};
+ghost use Rattle.data_url.specs.Url.{after, number_sign};
 
 mod cursor;
 mod digits;

@@ -1,8 +1,11 @@
 //! Forgiving base64 (Infra Standard, forgiving-base64 decode).
 
-ghost use Rattle.std.specs.{Prelude.{◌≡◌, ◌*◌, ◌+◌, ◌++◌, ◌/◌, ◌%◌, IfErr, IfOk, IsOk, IsTrue, Some}, Fn.{CalledAt}};
+ghost use Rattle.std.specs.Prelude.{◌≡◌, ◌*◌, ◌+◌, ◌++◌, ◌/◌, ◌%◌, IfErr, IfOk, IsOk, IsTrue, Some};
+ghost use Rattle.std.specs.Fn.{CalledAt};
 ghost use Rattle.data_url.specs.{Parts.{left_over_text}, Steps.Parts.{DecodesPart, FinishesPart}};
-ghost use Rattle.data_url.specs.{Base64.{decoded, is_valid}, Steps.Whole.{DecodesText}, Errors.{IsErrorOf}};
+ghost use Rattle.data_url.specs.Base64.{decoded, is_valid};
+ghost use Rattle.data_url.specs.Steps.Whole.{DecodesText};
+ghost use Rattle.data_url.specs.Errors.{IsErrorOf};
 
 use std::alloc::{AllocError, Global};
 use std::error::Error;
@@ -14,6 +17,7 @@ mod decode;
 mod gaps;
 mod held;
 mod left_over;
+mod rows;
 
 pub use decode::Decoder;
 pub use left_over::LeftOver;
@@ -165,8 +169,8 @@ where
     }
 }
 
-/// Calls a closure with the bytes of the groups that a text completes after what was left over, and puts what is left
-/// over then in its place. After an error that value is of no use.
+/// Calls a closure with the bytes of the groups that a text completes after what was left over. What is left over then
+/// takes the place of what was. After an error it is of no use.
 pub(crate) fn decode_part<F, E>(
     left_over: &mut LeftOver,
     text: &[u8],
@@ -175,8 +179,8 @@ pub(crate) fn decode_part<F, E>(
 where
     F: FnMut(&[u8]) -> Result<(), E>,
     requires { F.IsAlwaysCallable write_bytes.old }
-    ensures { DecodesPart (CalledAt F.FnMut) write_bytes.old (left_over_text left_over.old ++ text.now)
-        left_over.new result write_bytes.new }
+    ensures { DecodesPart (CalledAt F.FnMut) write_bytes.old
+        (left_over_text left_over.old ++ text.now) left_over.new result write_bytes.new }
 {
     let write = |piece: &[u8]| -> Result<(), E> { write_bytes(piece) };
     let mut decoder = Decoder::resume(*left_over, write);
@@ -199,7 +203,7 @@ where
 }
 
 /// Returns how many bytes a text of base64 of this length decodes to at most.
-pub(crate) fn room_for(len: usize) -> usize
+pub(crate) fn max_decoded_len(len: usize) -> usize
     ensures { result ≡ len / 4 * 3 + len % 4 * 3 / 4 }
 {
     len / 4 * 3 + len % 4 * 3 / 4
@@ -209,14 +213,14 @@ pub(crate) fn room_for(len: usize) -> usize
 /// ([Infra Standard, forgiving-base64 decode](https://infra.spec.whatwg.org/#forgiving-base64-decode)). Room for the
 /// bytes is allocated once, by the length of the text.
 ///
-/// Returns `InvalidBase64` with the first fault if the text is not valid, and `OutOfMemory` if allocation fails. That is
-/// before the text is read, so a text that is not valid gives `OutOfMemory` too, if there is no room for its bytes.
+/// Returns `InvalidBase64` with the first fault if the text is not valid, and `OutOfMemory` if allocation fails. That
+/// is before the text is read, so a text that is not valid gives `OutOfMemory` too, if there is no room for its bytes.
 pub fn decode_to_vec(alloc: Global, input: &[u8]) -> Result<Vec<u8>, DecodeToVecError>
     ensures valid { IsOk result → IsTrue (is_valid input.now) }
     ensures bytes { IfOk result (λ bytes. bytes.items ≡ decoded input.now) }
     ensures error { IfErr result (IsErrorOf input.now) }
 {
-    let Ok(mut bytes) = Vec::with_capacity(alloc, room_for(input.len())) else {
+    let Ok(mut bytes) = Vec::with_capacity(alloc, max_decoded_len(input.len())) else {
         return Err(DecodeToVecError::OutOfMemory);
     };
     let ended = decode_whole(input, |piece: &[u8]| -> Result<(), AllocError> {

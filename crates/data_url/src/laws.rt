@@ -2,8 +2,10 @@
 #![tactic(auto, using(crate::proofs::fragment::Encoded::laws))]
 
 ghost use Rattle.std.specs.Prelude.{◌≡◌, ◌↔◌, None};
-ghost use Rattle.data_url.specs.{Base64.{first_fault}, Laws.{IsReadAgain, TwoFeeds, is_fragment_byte}};
-ghost use Rattle.data_url.specs.{Mime.{Every, IsWellformed, Parses, Record, printed}, Percent.{percent_decoding}};
+ghost use Rattle.data_url.specs.Base64.{first_fault};
+ghost use Rattle.data_url.specs.Laws.{IsReadAgain, TwoFeeds, is_fragment_byte};
+ghost use Rattle.data_url.specs.Mime.{Every, IsWellformed, Parses, Record, printed};
+ghost use Rattle.data_url.specs.Percent.{percent_decoding};
 ghost use Rattle.data_url.specs.MimeType.{SameTexts, record_of};
 ghost use Rattle.data_url.specs.Url.{encoded_fragment, in_path_set, in_query_set, percent_encoding};
 

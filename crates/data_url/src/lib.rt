@@ -20,7 +20,7 @@ mod split;
 
 use body::{base64_to_vec, decode_base64, decode_plain, plain_to_vec};
 use escapes::{Walk, fragment_at};
-use forgiving_base64::{DecodeError, DecodeToVecError, room_for};
+use forgiving_base64::{DecodeError, DecodeToVecError, max_decoded_len};
 pub use fragment::FragmentIdentifier;
 use header::{read_media, serialise, serialised_text, split_suffix};
 use mime::Mime;

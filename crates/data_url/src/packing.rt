@@ -9,7 +9,8 @@ ghost use Rattle.data_url.specs.Steps.Groups.{clear};
 use crate::classes::lanes::{put, row};
 use std::simd::prelude::*;
 
-/// Has, for each number of eight bits, the places of its bits that are 0, and then zeros: eight bytes. Sixteen are read.
+/// For each number of eight bits, eight bytes: the places of its bits that are 0, and then zeros. `clear_places` reads
+/// them as a row, with eight bytes more that are of no use.
 #[rattlefmt::skip]
 const PLACES: [u8; 2056] = [
     0, 1, 2, 3, 4, 5, 6, 7, 1, 2, 3, 4, 5, 6, 7, 0, 0, 2, 3, 4, 5, 6, 7, 0, 2, 3, 4, 5, 6, 7, 0, 0,
@@ -90,7 +91,8 @@ fn clear_places(eight: usize) -> (u8x16, usize)
     (row(&PLACES, 8 * eight), 8 - eight.count_ones() as usize)
 }
 
-/// Writes the bytes of a row whose bits are 0 at a place. Returns the place after them. Sixteen bytes from there may be overwritten.
+/// Writes those bytes of a row whose bits in `dropped` are 0, from the place `at` on. Returns the place after them. The
+/// sixteen bytes from there on may be overwritten.
 #[inline(always)]
 pub(crate) fn pack_row(row: u8x16, dropped: usize, bytes: &mut [u8], at: usize) -> usize
     requires bits { dropped < 65536 }

@@ -1,6 +1,6 @@
 //! Worked examples, through the public calls of the library: tables of texts and results, over few helpers, since each
-//! function is proved before it runs. A helper takes a table by reference, which is much cheaper to prove than a loop over
-//! its rows by value. Small helpers with few fallible calls are cheaper to prove than one function with many.
+//! function is proved before it runs. A helper takes a table by reference, which is much cheaper to prove than a loop
+//! over its rows by value. Small helpers with few fallible calls are cheaper to prove than one function with many.
 
 mod capacity;
 mod decoder;

@@ -12,11 +12,11 @@ use std::alloc::AllocError;
 use std::convert::Infallible;
 
 /// Calls a closure with the body of a URL, piece by piece, and returns the closure as its last call left it. Nothing is
-/// allocated, and the fragment is dropped. The result of decoding is written to a place of its own, so that a caller still
-/// knows, by its cases, what its closure captured.
+/// allocated, and the fragment is dropped. The result of decoding is written to a place of its own, so that a caller
+/// still knows, by its cases, what its closure captured.
 ///
-/// It is `WriteError` with the closure's error, which is not called again, and `InvalidBase64` for a base64 body that is not
-/// valid, after calls with the bytes before its first fault.
+/// It is `WriteError` with the closure's error, which is not called again, and `InvalidBase64` for a base64 body that
+/// is not valid, after calls with the bytes before its first fault.
 pub fn decode_body<F, E>(url: &DataUrl, answer: &mut Result<(), DecodeError<E>>, write: F) -> F
 where
     F: FnMut(&[u8]) -> Result<(), E>,
@@ -54,8 +54,8 @@ pub fn body_len(url: &DataUrl) -> Result<usize, InvalidBase64>
 
 /// Appends the body of a URL to a vector.
 ///
-/// Returns `InvalidBase64` if the body is base64 that is not valid, after the bytes before its first fault were appended,
-/// and `OutOfMemory` if allocation fails, after a beginning of the body was appended.
+/// Returns `InvalidBase64` if the body is base64 that is not valid, after the bytes before its first fault were
+/// appended, and `OutOfMemory` if allocation fails, after a beginning of the body was appended.
 pub fn append_body(url: &DataUrl, bytes: &mut Vec<u8>) -> Result<(), DecodeToVecError>
     ensures { Appends (url_body url.now) bytes.old.items bytes.new.items result }
 {

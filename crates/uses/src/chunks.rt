@@ -9,8 +9,8 @@ use data_url::forgiving_base64::Decoder;
 
 /// Feeds a decoder with the chunks of a text in turn, and returns whether it took them all.
 ///
-/// It stops after a chunk with a fault, or one whose bytes the closure refuses: the chunks after it are not fed. A decoder
-/// that had failed before is fed with none.
+/// It stops after a chunk with a fault, or one whose bytes the closure refuses: the chunks after it are not fed. A
+/// decoder that had failed before is fed with none.
 pub fn feed_chunks<F, E>(decoder: &mut Decoder<F, E>, chunks: &[&[u8]]) -> bool
 where
     F: FnMut(&[u8]) -> Result<(), E>,

@@ -51,11 +51,11 @@ fn open<'a>(alloc: Global, text: &'a str) -> Result<DataUrl<'a>, FetchError>
     }
 }
 
-/// The response to a request for a data: URL (Fetch Standard, section 6, and scheme fetch): status 200, the printed MIME
-/// type and the whole body.
+/// The response to a request for a data: URL (Fetch Standard, section 6, and scheme fetch): status 200, the printed
+/// MIME type and the whole body.
 ///
-/// Returns `Network` with the reason exactly if the Standard returns a network error; a base64 body that is not valid fails
-/// as a whole. Returns `OutOfMemory` if allocation fails, for a text with a scheme and a comma.
+/// Returns `Network` with the reason exactly if the Standard returns a network error; a base64 body that is not valid
+/// fails as a whole. Returns `OutOfMemory` if allocation fails, for a text with a scheme and a comma.
 pub fn fetch(alloc: Global, text: &str) -> Result<Response, FetchError>
     ensures { Fetches text.now result }
 {

@@ -21,8 +21,8 @@ pub enum Part<'a> {
     Refused(&'a str, Reason),
 }
 
-/// Returns the text before the first reference, the reference, and the text from its closing quote on, or None if there is
-/// no reference.
+/// Returns the text before the first reference, the reference, and the text from its closing quote on, or None if there
+/// is no reference.
 fn next_reference<'a>(page: &'a str) -> Option<(&'a str, &'a str, &'a str)>
     ensures { FindsReference page.entry.now result }
 {
@@ -48,8 +48,8 @@ fn part_of<'a>(alloc: Global, reference: &'a str) -> Result<Part<'a>, AllocError
     }
 }
 
-/// Returns the parts of a page, in order: text, and references with their resources. A reference that is refused stays as
-/// it is, with the reason. The texts of the parts, one after another, are the page.
+/// Returns the parts of a page, in order: text, and references with their resources. A reference that is refused stays
+/// as it is, with the reason. The texts of the parts, one after another, are the page.
 ///
 /// Returns an error if allocation fails.
 pub fn inline<'a>(alloc: Global, page: &'a str) -> Result<Vec<Part<'a>>, AllocError>

@@ -54,8 +54,8 @@ fn write_piece<W: Write>(sink: &mut W, piece: &[u8]) -> Result<(), Refusal>
     Ok(())
 }
 
-/// Writes a whole piece if it is no longer than the room, in bytes, and subtracts its length from the room. A longer piece
-/// is refused.
+/// Writes a whole piece if it is no longer than the room, in bytes, and subtracts its length from the room. A longer
+/// piece is refused.
 fn write_within<W: Write>(sink: &mut W, room: &mut usize, piece: &[u8]) -> Result<(), Refusal>
     ensures { WritesWithin piece.now room.old room.new (W.contents sink.old) (W.contents sink.new)
         result }

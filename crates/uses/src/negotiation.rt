@@ -12,8 +12,8 @@ fn is_essence(accepted: &Mime, type_: &str, subtype: &str) -> bool
     accepted.parameters.is_empty() && accepted.matches(type_, subtype)
 }
 
-/// Returns how well an accepted type fits a record: 4 where it is the same with its parameters, 3 where it has no parameters
-/// and is the same type and subtype, 2 where it is `type/*`, 1 where it is `*/*`, and 0 where it does not.
+/// Returns how well an accepted type fits a record: 4 where it is the same with its parameters, 3 where it has no
+/// parameters and is the same type and subtype, 2 where it is `type/*`, 1 where it is `*/*`, and 0 where it does not.
 fn rank_of(accepted: &Mime, mime: &Mime) -> u8
     ensures { result ≡ rank_for mime.now accepted.now }
 {
@@ -30,9 +30,10 @@ fn rank_of(accepted: &Mime, mime: &Mime) -> u8
     }
 }
 
-/// Returns the place of the best accepted type for a record: the first of the highest rank. The highest rank is the same type
-/// with the same parameters in the same order, then comes the same type and subtype without parameters, then `type/*`, and
-/// then `*/*`. An accepted type with parameters fits only the same type with the same parameters, `q` included.
+/// Returns the place of the best accepted type for a record: the first of the highest rank. The highest rank is the
+/// same type with the same parameters in the same order, then comes the same type and subtype without parameters, then
+/// `type/*`, and then `*/*`. An accepted type with parameters fits only the same type with the same parameters, `q`
+/// included.
 ///
 /// Returns None if no accepted type fits the record.
 pub fn best(accepted: &[Mime], mime: &Mime) -> Option<usize>

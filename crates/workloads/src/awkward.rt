@@ -1,5 +1,5 @@
-//! Inputs that are awkward to read: many parameters, a space after each symbol, tabs and newlines inside escapes, runs of `%`
-//! that begin no escape, and base64 with a fault near its end.
+//! Inputs that are awkward to read: many parameters, a space after each symbol, tabs and newlines inside escapes, runs
+//! of `%` that begin no escape, and base64 with a fault near its end.
 
 use crate::bench::Bench;
 use crate::pages::rows;

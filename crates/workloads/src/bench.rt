@@ -95,8 +95,8 @@ impl Bench {
         Ok(())
     }
 
-    /// Adds a record to the digest, after a look at it as a crawler takes it: its type, its character set, and how it is
-    /// printed.
+    /// Adds a record to the digest, after a look at it as a crawler takes it: its type, its character set, and how it
+    /// is printed.
     fn add_record(&mut self, mime: &Mime) -> Result<(), AllocError> {
         let is_html = mime.matches("text", "html") || mime.matches("application", "xhtml+xml");
         self.digest.number(u64::from(is_html));

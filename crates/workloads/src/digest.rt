@@ -1,4 +1,5 @@
-//! A digest of results. It costs little beside the work that is measured: sixteen lanes of 32 bits take 64 bytes at a time.
+//! A digest of results. It costs little beside the work that is measured: sixteen lanes of 32 bits take 64 bytes at a
+//! time.
 
 use std::simd::prelude::*;
 

@@ -1,5 +1,5 @@
-//! `workloads NAME COUNT SEED` does the work of the workload with this name, or of all, on COUNT inputs that it makes from the
-//! number SEED, and prints a digest of all results. `bench/run` times it.
+//! `workloads NAME COUNT SEED` does the work of the workload with this name, or of all, on COUNT inputs that it makes
+//! from the number SEED, and prints a digest of all results. `bench/run` times it.
 #![tactic(auto)]
 
 mod awkward;
@@ -27,7 +27,8 @@ fn run_all(bench: &mut Bench, count: u64) -> Result<(), AllocError> {
     awkward::run(bench, count)
 }
 
-/// Runs a workload, or all of them, and returns the digest of its results, or None if there is no workload with this name.
+/// Runs a workload, or all of them, and returns the digest of its results, or None if there is no workload with this
+/// name.
 fn run(alloc: Global, name: &str, count: u64, seed: u64) -> Result<Option<u64>, AllocError> {
     let mut bench = Bench::new(alloc, seed);
     match name {

@@ -1,5 +1,5 @@
-//! Saved pages and style sheets: icons, pictures and fonts in base64, of all sizes. Most are clean, some are in lines or have
-//! escapes for `+`, `/` and `=`.
+//! Saved pages and style sheets: icons, pictures and fonts in base64, of all sizes. Most are clean, some are in lines
+//! or have escapes for `+`, `/` and `=`.
 
 use crate::bench::Bench;
 use std::alloc::AllocError;

@@ -32,8 +32,8 @@ impl Random {
         self.next() as usize % bound
     }
 
-    /// Returns a number from a range of sizes, in which small ones are as frequent as large ones: from `least` on, doubled up
-    /// to `doublings` times.
+    /// Returns a number from a range of sizes, in which small ones are as frequent as large ones: from `least` on,
+    /// doubled up to `doublings` times.
     pub(crate) fn size(&mut self, least: usize, doublings: usize) -> usize {
         let mut size = least;
         for _ in 0..self.below(doublings) {

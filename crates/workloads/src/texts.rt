@@ -1,5 +1,5 @@
-//! Texts that `encodeURIComponent` wrote: HTML, JSON, CSV and texts in several languages, some with a fragment that names a
-//! part of the text.
+//! Texts that `encodeURIComponent` wrote: HTML, JSON, CSV and texts in several languages, some with a fragment that
+//! names a part of the text.
 
 use crate::bench::Bench;
 use std::alloc::AllocError;

@@ -17,7 +17,8 @@ use Rattle.data_url.specs.{Run.{joined_pieces, refusal, IsPrefix}, Steps.Chunks.
 use Rattle.data_url.specs.{Steps.Chunks.{IsCallableUntilError, IsOver, Takes, TakesOn, TakesPart}}
 use Rattle.data_url.specs.{Steps.Chunks.{TakesUntil, TakesWithin}, Steps.Digits.{cleaned}}
 use Rattle.data_url.specs.{Steps.Holding.{FeedsFront}, Steps.Tail.{IsBodyEnd}}
-use Rattle.data_url.specs.{Steps.Window.{is_plain}, Url.{is_tab_or_newline, number_sign, after, trimmed_text}}
+use Rattle.data_url.specs.Steps.Window.{is_no_hash_or_percent}
+use Rattle.data_url.specs.Url.{is_tab_or_newline, number_sign, after, trimmed_text}
 use Rattle.data_url.specs.{declared.DataUrl.{DataUrl}, declared.forgiving_base64.DecodeError.{DecodeError}}
 use Rattle.data_url.specs.declared.forgiving_base64.DecodeError.TheVariants.{WriteError, InvalidBase64}
 use Rattle.data_url.proofs.escapes.EscapeDigits.{begins_other, cleaned_keeps, cleaned_passes}
@@ -345,10 +346,10 @@ unfolding without_whitespace
 space_gone c x t = grind arith
 
 -- a byte that is neither '#' nor '%' is read as it is, unless it is a tab or a newline
-plain_one : (c : ℕ) (s : List ℕ) → is_plain c ≡ true
+unescaped_one : (c : ℕ) (s : List ℕ) → is_no_hash_or_percent c ≡ true
     → (without_whitespace (plain_body (c ∷ s)) ≡ without_whitespace (c ∷ plain_body s))
     × (after number_sign (c ∷ s) ≡ after number_sign s)
-plain_one c s h =
+unescaped_one c s h =
     let no : (c == 35) ≡ false = grind arith in
     let other : (c == 37) ≡ false = grind arith in
     let same : without_whitespace (plain_body (c ∷ s)) ≡ without_whitespace (c ∷ plain_body s) =
@@ -363,22 +364,22 @@ plain_one c s h =
     (same, after_other 35 c s no)
 
 -- text without '#' and '%' is read as it is, but for tabs and newlines
-plain_front : (a b : List ℕ) → list_all is_plain a ≡ true
+unescaped_front : (a b : List ℕ) → list_all is_no_hash_or_percent a ≡ true
     → (without_whitespace (plain_body (a ++ b)) ≡ without_whitespace (a ++ plain_body b))
     × (after number_sign (a ++ b) ≡ after number_sign b)
-plain_front [] b h = (refl, refl)
-plain_front (c ∷ a) b h =
-    let k = and_parts (is_plain c) (list_all is_plain a) h in
-    let more = plain_front a b k.1 in
-    let one = plain_one c (a ++ b) k.0 in
+unescaped_front [] b h = (refl, refl)
+unescaped_front (c ∷ a) b h =
+    let k = and_parts (is_no_hash_or_percent c) (list_all is_no_hash_or_percent a) h in
+    let more = unescaped_front a b k.1 in
+    let one = unescaped_one c (a ++ b) k.0 in
     let same = alike_cons c (plain_body (a ++ b)) (a ++ plain_body b) more.0 in
     (one.0 ∙ same, one.1 ∙ more.1)
 
 -- the fragment of a tail comes after its front
-pub front_fragment : (tail : List ℕ) (at : ℕ) → list_all is_plain (take at tail) ≡ true
+pub front_fragment : (tail : List ℕ) (at : ℕ) → list_all is_no_hash_or_percent (take at tail) ≡ true
     → after number_sign (drop at tail) ≡ after number_sign tail
-front_fragment tail at plain =
-    cc ((plain_front (take at tail) (drop at tail) plain).1, take-append-drop at tail)
+front_fragment tail at unescaped =
+    cc ((unescaped_front (take at tail) (drop at tail) unescaped).1, take-append-drop at tail)
 
 -- the bytes are the body of the tail, but for white space
 pub record IsBodyOf (tail bytes : List ℕ) : Type 0 where
@@ -408,10 +409,10 @@ part_byte tail at m n l is =
     ap (λ t. get_or t n 0) is ∙ get_or-take m (drop at tail) n 0 few ∙ get_or-drop at tail n 0
 
 -- the front of a tail as it is, and then the body from there on
-pub front_body : (tail : List ℕ) (at : ℕ) → at ≤ length tail → list_all is_plain (take at tail) ≡ true
+pub front_body : (tail : List ℕ) (at : ℕ) → at ≤ length tail → list_all is_no_hash_or_percent (take at tail) ≡ true
     → IsBodyOf tail (take at tail ++ plain_body (drop at tail))
-front_body tail at within plain =
-    let front = plain_front (take at tail) (drop at tail) plain in
+front_body tail at within unescaped =
+    let front = unescaped_front (take at tail) (drop at tail) unescaped in
     record {
       few = omega (
         arith,
@@ -438,8 +439,9 @@ module _ {F E : Type 0} (step : F → List ℕ → Result (Unit {0}) E → F →
       let joined = in_part tail at m n h.within is in
       record {
         within = omega (arith, k.within, h.within, (part_within tail at m is).1);
-        plain = subst (λ t. list_all is_plain t ≡ true) joined
-            (list_all-append is_plain (take at tail) (take n part) ∙ ap₂ (λ a b. a && b) k.plain h.plain);
+        unescaped = subst (λ t. list_all is_no_hash_or_percent t ≡ true) joined
+            (list_all-append is_no_hash_or_percent (take at tail) (take n part)
+            ∙ ap₂ (λ a b. a && b) k.unescaped h.unescaped);
         feeds = subst (λ t. Feeds step d t r d2) joined (feeds_then step k.feeds h.feeds);
       }
 

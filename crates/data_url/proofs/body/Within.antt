@@ -20,7 +20,7 @@ use Rattle.data_url.specs.Fetch.{outcome, outcome_bytes, plain_body}
 use Rattle.data_url.specs.{Parts.{prepend}, Pieces.{Walk}, Url.{after, number_sign}}
 use Rattle.data_url.specs.Run.{Call, IsPrefix, IsRun, joined_pieces, refusal}
 use Rattle.data_url.specs.Steps.{Chunks.{IsBodyFrom, TakesPart, TakesUntil}, Holding.{FeedsFront}, Tail.{IsBodyEnd}}
-use Rattle.data_url.specs.Steps.{Parts.{DecodesWithin, StopsAt}, Window.{is_plain}}
+use Rattle.data_url.specs.Steps.{Parts.{DecodesWithin, StopsAt}, Window.{is_no_hash_or_percent}}
 use Rattle.data_url.specs.declared.body.Stop.TheVariants.{Ended, Paused}
 use Rattle.data_url.specs.declared.body.Stop.{Stop}
 use Rattle.data_url.specs.declared.forgiving_base64.DecodeError.TheVariants.{InvalidBase64, WriteError}
@@ -119,7 +119,7 @@ front_whole {step = step} {d = d} {d' = d'} {tail = tail} {part = part} {r = r} 
     ap (take place) is ∙ take-take place (min (length tail) most) tail (omega (arith, size, h.within)) in (
       record {
         within = omega (arith, size, h.within);
-        plain = subst (λ t. list_all is_plain t ≡ true) same h.plain;
+        unescaped = subst (λ t. list_all is_no_hash_or_percent t ≡ true) same h.unescaped;
         feeds = subst (λ t. Feeds step d t r d') same h.feeds;
       },
       omega (arith, size, h.within),
@@ -130,7 +130,7 @@ module _ {F E : Type 0} (step : F → List ℕ → Result (Unit {0}) E → F →
   pub fed_front : {d d' : State F} {tail : List ℕ} {r : Result (Unit {0}) (DecodeError E)} (most place : ℕ)
       → FeedsFront step d tail place r d' → place ≤ most → FedBody step d tail most (plain_body (drop place tail)) r d'
   fed_front {tail = tail} most place h l =
-      let front = front_body tail place h.within h.plain in
+      let front = front_body tail place h.within h.unescaped in
       let size = length-take-le place tail h.within in
       record {
         fed = take place tail;
@@ -164,7 +164,7 @@ module _ {C F E : Type 0} {outer : C → List ℕ → Result (Unit {0}) (DecodeE
       let t = part.takes in
       let size = length-take-le place tail front.within in
       let all = length-append (take place tail) (joined_pieces t.run) in
-      let body = front_body tail place front.within front.plain in
+      let body = front_body tail place front.within front.unescaped in
       let whole : take place tail ++ plain_body (drop place tail) ≡ (take place tail ++ joined_pieces t.run) ++
       w'.rest =
       cc (from.rest_is, t.body, append_assoc (take place tail) (joined_pieces t.run) w'.rest) in
@@ -192,7 +192,7 @@ module _ {C F E : Type 0} {outer : C → List ℕ → Result (Unit {0}) (DecodeE
   fed_until {c} {c'} {d} {tail} {place} {most} {w} {x} l front from u =
       let size = length-take-le place tail front.within in
       let all = length-append (take place tail) (joined_pieces u.run) in
-      let body = front_body tail place front.within front.plain in
+      let body = front_body tail place front.within front.unescaped in
       let whole : take place tail ++ plain_body (drop place tail)
       ≡ (take place tail ++ joined_pieces u.run) ++ u.begins.0 =
       cc (from.rest_is, u.begins.1, append_assoc (take place tail) (joined_pieces u.run) u.begins.0) in

@@ -1,5 +1,5 @@
 -- A row that a block has four times, swizzles that look up bytes in such a block, and the first row of a block. For
--- `classes/lanes.rt`, `alphabet.rt`, `gaps.rt`, `held.rt`, `mime/values.rt` and `escapes/lanes.rt`.
+-- `classes/lanes.rt`, `alphabet.rt`, `gaps.rt`, `rows.rt`, `mime/values.rt` and `escapes/lanes.rt`.
 use Rattle.std.proofs.Common.{Bool, List, [], ◌∷◌, ◌++◌, map, ◌≡◌, ℕ, ◌<◌, ◌≤◌, true, eqb, get_or, Fits, w8, ap, length}
 use Rattle.std.proofs.Common.{◌+◌, ◌*◌, ◌/◌, ◌%◌, refl, sym, ◌∙◌, arith, suc, take, drop, eqb-true, get_or-take}
 use Rattle.std.proofs.lemmas.{Bool.{agree_below_at}, List.Folds.{list_all-append}}

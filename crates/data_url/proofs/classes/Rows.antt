@@ -6,18 +6,22 @@ use Rattle.std.proofs.lemmas.Simd.{bitmask_splat, map-map, none_from_empty_mask,
 use Rattle.std.proofs.lemmas.{List.Sums.{prefix_len-le-length}, Bool.{agree_below, agree_below_at, cases_lt}}
 use Rattle.std.proofs.{lemmas.Bool.{false≢true}, lemmas.List.{length-map}, Math.Bool.{and_assoc}}
 use Rattle.std.specs.{Int.Count.{count_trailing_zeros}, List.{prefix_len, list_all, range_with_len}}
-use Rattle.data_url.specs.{Steps.Classes.{AreOf, is_marked, looked_up}, declared.classes.TheConstants.{CLASSES}}
+use Rattle.data_url.specs.{Steps.Classes.{AreOf, classified, is_marked}, declared.classes.TheConstants.{CLASSES}}
 use Rattle.data_url.proofs.forgiving_base64.Vectors.{differs, or_zero}
 use lib.Lanes.{fold_l, mask_l, sel_l, top, zip2}
 
 -- the bits of the items that differ from 0 are the mask of the row's marked bytes
-pub marks_are : (others v found : List ℕ) → length v ≡ 16 → found ≡ map (looked_up others) v
+pub marks_are : (class_table v found : List ℕ) → length v ≡ 16 → found ≡ map (classified class_table) v
     → mask_l (map (top 7) (zip2 (λ a b. cond (differs a b) 255 0) found
     (0 ∷ 0 ∷ 0 ∷ 0 ∷ 0 ∷ 0 ∷ 0 ∷ 0 ∷ 0 ∷ 0 ∷ 0 ∷ 0 ∷ 0 ∷ 0 ∷ 0 ∷ 0 ∷ []))) % 2 ^ 64 ≡ mask_l
-    (map (is_marked others) v)
-marks_are others v found long e =
-    let size = ap length e ∙ length-map v (looked_up others) ∙ long in
-    cc (bitmask_splat w8 differs found 16 0 size (omega arith), e, map-map (λ x. differs x 0) (looked_up others) v)
+    (map (is_marked class_table) v)
+marks_are class_table v found long e =
+    let size = ap length e ∙ length-map v (classified class_table) ∙ long in
+    cc (
+      bitmask_splat w8 differs found 16 0 size (omega arith),
+      e,
+      map-map (λ x. differs x 0) (classified class_table) v,
+    )
 
 -- the bitwise or of a number and of what is computed from bytes is 0 exactly if all of these are
 or_all : (f : ℕ → ℕ) (a : ℕ) (v : List ℕ)
@@ -26,9 +30,9 @@ or_all f a [] = grind arith
 or_all f a (x ∷ v) = grind (arith, or_all f (bit_or a (f x)) v, or_zero a (f x), and_assoc)
 
 -- the bitwise or of all items is 0 exactly if no byte is marked
-pub unmarked_is : (others v found : List ℕ) → found ≡ map (looked_up others) v
-    → eqb (fold_l bit_or 0 found) 0 ≡ list_all (λ b. not (is_marked others b)) v
-unmarked_is others v found e = ap (λ l. eqb (fold_l bit_or 0 l) 0) e ∙ or_all (looked_up others) 0 v
+pub unmarked_is : (class_table v found : List ℕ) → found ≡ map (classified class_table) v
+    → eqb (fold_l bit_or 0 found) 0 ≡ list_all (λ b. not (is_marked class_table b)) v
+unmarked_is class_table v found e = ap (λ l. eqb (fold_l bit_or 0 l) 0) e ∙ or_all (classified class_table) 0 v
 
 -- for each of n indices from i on, whether it is less than p
 abbrev are_before : ℕ → ℕ → ℕ → List Bool
@@ -56,41 +60,43 @@ pub sel_before : (xs ys : List ℕ) (p : ℕ) → length xs ≡ 16 → length ys
 sel_before xs ys p e h l = grind (arith, sel_from p 0 p xs ys (e ∙ sym h) (omega arith))
 
 -- the bytes before a place are of a class
-pub record Looked (others bytes : List ℕ) (at : ℕ) : Type 0 where
+pub record Looked (class_table bytes : List ℕ) (at : ℕ) : Type 0 where
   pub within : at ≤ length bytes
-  pub front : AreOf others bytes at
+  pub front : AreOf class_table bytes at
 
 -- a mask is 0 exactly if no item passes
 mask_zero : (p : ℕ → Bool) (xs : List ℕ) → (mask_l (map p xs) == 0) ≡ list_all (λ x. not (p x)) xs
 mask_zero p [] = refl
 mask_zero p (x ∷ xs) = grind (arith, mask_zero p xs)
 
-module _ (others bytes : List ℕ) (at : ℕ) {row : List ℕ} {b : Bool} (h : Looked others bytes at) (room : at + 16
-    ≤ length bytes)
-    (r : row ≡ take 16 (drop at bytes)) (e : b ≡ list_all (λ x. not (is_marked others x)) row) where
+module _ (class_table bytes : List ℕ) (at : ℕ) {row : List ℕ} {b : Bool} (h : Looked class_table bytes at)
+    (room : at + 16 ≤ length bytes)
+    (r : row ≡ take 16 (drop at bytes)) (e : b ≡ list_all (λ x. not (is_marked class_table x)) row) where
   -- so is the mask of a row
-  row_mask : (mask_l (map (is_marked others) (take 16 (drop at bytes))) == 0) ≡ b
+  row_mask : (mask_l (map (is_marked class_table) (take 16 (drop at bytes))) == 0) ≡ b
   row_mask = grind (arith, mask_zero)
 
   -- if a row has no marked byte, the bytes before the end of the row are of the class, too
-  pub one_row_more : b ≡ true → Looked others bytes (at + 16)
+  pub one_row_more : b ≡ true → Looked class_table bytes (at + 16)
   one_row_more t =
-      let row = none_from_empty_mask (is_marked others) bytes at 16 0 room (eqb-true _ _ (row_mask ∙ t)) in
-      let all : AreOf others bytes (at + 16) = λ k l. ⊎_elim (h.front k) (λ (m : at ≤ k). row k m l) (cases_lt k at) in
+      let row = none_from_empty_mask (is_marked class_table) bytes at 16 0 room (eqb-true _ _ (row_mask ∙ t)) in
+      let all : AreOf class_table bytes (at + 16) = λ k l. ⊎_elim (h.front k) (λ (m : at ≤ k). row k m l)
+      (cases_lt k at) in
       record { within = room; front = all }
 
   -- otherwise, so are those before the first marked byte of the row
-  pub row_front : (n : ℕ) → b ≡ false → n ≡ count_trailing_zeros 64 (mask_l (map (is_marked others) row))
-      → (n ≤ 16) × Looked others bytes (at + n)
+  pub row_front : (n : ℕ) → b ≡ false → n ≡ count_trailing_zeros 64 (mask_l (map (is_marked class_table) row))
+      → (n ≤ 16) × Looked class_table bytes (at + n)
   row_front n t f =
       let found = take 16 (drop at bytes) in
-      let p : ℕ → Bool = is_marked others in
+      let p : ℕ → Bool = is_marked class_table in
       let long = length-take-le 16 (drop at bytes) (omega (arith, length-drop {A = ℕ})) in
       let some : 0 < mask_l (map p found) = grind (arith, row_mask, t) in
       let counted : n ≡ prefix_len (λ x. not (p x)) found = grind (arith, count_trailing_zeros, trailing_mask_l) in
       let few = prefix_len-le-length (λ x. not (p x)) found in
       let before = run_in_chunk_fails p bytes at 16 n 0 room counted in
-      let all : AreOf others bytes (at + n) = λ k l. ⊎_elim (h.front k) (λ (m : at ≤ k). before k m l) (cases_lt k at)
+      let all : AreOf class_table bytes (at + n) = λ k l. ⊎_elim (h.front k) (λ (m : at ≤ k). before k m l)
+      (cases_lt k at)
       in
       (omega arith, record { within = omega arith; front = all })
 

@@ -20,21 +20,22 @@ use Rattle.data_url.specs.declared.escapes.{lanes.TheConstants.{MARKED}, marks.B
 use borrow.Rule.Slice.PartMut.{mid_of, post_of, put_mid}
 
 -- a block of 64 bytes of the text, copied into a buffer of 512 bytes, leaves its first `width` bytes there
-pub copied_wide : (room bytes text : List ℕ) (len width start : ℕ) → length room ≡ 512 → len + 64 ≤ 512 → width ≤ 64
+pub copied_block : (buffer bytes text : List ℕ) (len width start : ℕ) → length buffer ≡ 512 → len + 64 ≤ 512
+    → width ≤ 64
     → start + 64 ≤ length text → bytes ≡ text
-    → take (len + width) (put_mid len (len + 64 - len) room (put_chunk 0 (mid_of len (len + 64 - len) room)
-    (chunk 0 64 (take (start + 64 - start) (drop start bytes))))) ≡ take len room ++ take width (drop start text)
-copied_wide room bytes text len width start long l w h e =
+    → take (len + width) (put_mid len (len + 64 - len) buffer (put_chunk 0 (mid_of len (len + 64 - len) buffer)
+    (chunk 0 64 (take (start + 64 - start) (drop start bytes))))) ≡ take len buffer ++ take width (drop start text)
+copied_block buffer bytes text len width start long l w h e =
     let n : len + 64 - len ≡ 64 = omega arith in
     let k : start + 64 - start ≡ 64 = omega arith in
     let s = take 64 (drop start text) in
-    let post = post_of len (len + 64 - len) room in
-    let mid = mid_of len (len + 64 - len) room in
-    let front = length-take-le len room (omega arith) in
+    let post = post_of len (len + 64 - len) buffer in
+    let mid = mid_of len (len + 64 - len) buffer in
+    let front = length-take-le len buffer (omega arith) in
     let few = length-take-le 64 (drop start text) (omega (arith, length-drop start text)) in
-    let size = length-take-le (len + 64 - len) (drop len room) (omega (arith, length-drop len room)) ∙ n in
+    let size = length-take-le (len + 64 - len) (drop len buffer) (omega (arith, length-drop len buffer)) ∙ n in
     let whole = put_chunk_whole mid s (size ∙ sym few) in
-    let joined = take-append-add (take len room) (s ++ post) width in
+    let joined = take-append-add (take len buffer) (s ++ post) width in
     let part = take-append-le width s post (omega (arith, few)) in
     cc (take-take 64 64 (drop start bytes) (omega arith), take-take width 64 (drop start text) w)
 
@@ -126,25 +127,25 @@ mask_none p [] h = refl
 mask_none p (x ∷ xs) h = grind (arith, mask_none p xs)
 
 -- the marks of a block, shifted by the distance from its start to an index, are those of the block from the index on
-pub block_from : {s : Source} {b : Block} {place marks : ℕ} → Looking s b place 0 → place ≤ b.seen
-    → marks ≡ b.marks / 2 ^ (place - b.base) → IsBlock s.text.now place b.seen marks
+pub block_from : {s : Source} {b : Block} {place marks : ℕ} → Looking s b place 0 → place ≤ b.end
+    → marks ≡ b.marks / 2 ^ (place - b.base) → IsBlock s.text.now place b.end marks
 block_from {s} {b} {place} {marks} k l e = grind (arith, mask_later, drop-map, drop_taken, drop-drop)
 
 -- when the block between two indices is read, the walk can go on at the first of them
-looking_read : {s s' : Source} {b : Block} {place seen marks : ℕ} (bytes : List ℕ) → Looking s b place 0
-    → b.seen ≤ place → s'.text.now ≡ s.text.now → seen ≡ place + length bytes → seen ≤ length s.text.now
-    → seen ≤ place + 64 → s'.looks + place ≡ s.looks + seen → bytes ≡ take (length bytes) (drop place s.text.now)
+looking_read : {s s' : Source} {b : Block} {place end marks : ℕ} (bytes : List ℕ) → Looking s b place 0
+    → b.end ≤ place → s'.text.now ≡ s.text.now → end ≡ place + length bytes → end ≤ length s.text.now
+    → end ≤ place + 64 → s'.looks + place ≡ s.looks + end → bytes ≡ take (length bytes) (drop place s.text.now)
     → marks ≡ mask_l (map is_marked bytes)
-    → Looking s' (record { base = place; seen = seen; marks = marks }) place 0
-looking_read {s} {s'} {b} {place} {seen} {marks} bytes k unseen t end within short n e m =
-    let width : length bytes ≡ seen - place = omega (arith, end) in
-    let all : bytes ≡ slice_range s'.text.now place seen =
+    → Looking s' (record { base = place; end = end; marks = marks }) place 0
+looking_read {s} {s'} {b} {place} {end} {marks} bytes k unseen t sized within short n e m =
+    let width : length bytes ≡ end - place = omega (arith, sized) in
+    let all : bytes ≡ slice_range s'.text.now place end =
     e ∙ ap (λ j. take j (drop place s.text.now)) width
-    ∙ ap (λ (x : List ℕ). take (seen - place) (drop place x)) (sym t) in
+    ∙ ap (λ (x : List ℕ). take (end - place) (drop place x)) (sym t) in
     record {
       block = record {
-        base_le = omega (arith, end);
-        seen_le = rw t within;
+        base_le = omega (arith, sized);
+        end_le = rw t within;
         short = short;
         marks_are = m ∙ ap (λ x. mask_l (map is_marked x)) all;
       };
@@ -154,39 +155,40 @@ looking_read {s} {s'} {b} {place} {seen} {marks} bytes k unseen t end within sho
     }
 
 -- when the whole block at an index is read, the walk can go on there
-pub looking_whole : {s s' : Source} {b : Block} {place marks : ℕ} (bytes : List ℕ) → Looking s b place 0
-    → b.seen ≤ place → place + 64 ≤ length s.text.now → s'.text.now ≡ s.text.now → s'.looks ≡ s.looks + 64
+pub looking_whole : {s s' : Source} {b b' : Block} {place marks : ℕ} (bytes : List ℕ) → Looking s b place 0
+    → b.end ≤ place → place + 64 ≤ length s.text.now → s'.text.now ≡ s.text.now → s'.looks ≡ s.looks + 64
     → bytes ≡ take 64 (drop place s.text.now) → marks ≡ mask_l (map is_marked bytes)
-    → Looking s' (record { base = place; seen = place + 64; marks = marks }) place 0
-looking_whole {s} {place = place} bytes k unseen within t l e m =
+    → b' ≡ record { base = place; end = place + 64; marks = marks } → Looking s' b' place 0
+looking_whole {s} {place = place} bytes k unseen within t l e m is =
     let rest = drop place s.text.now in
     let long : length bytes ≡ 64 =
     ap length e ∙ length-take-le 64 rest (omega (arith, within, length-drop place s.text.now)) in
-    looking_read bytes k unseen t (omega (arith, long)) within (omega arith) (omega (arith, l))
-    (e ∙ ap (λ n. take n rest) (sym long)) m
+    rw is (looking_read bytes k unseen t (omega (arith, long)) within (omega arith) (omega (arith, l))
+    (e ∙ ap (λ n. take n rest) (sym long)) m)
 
 -- when the rest of the text from an index on is read, which is short, the walk can go on there
-pub looking_rest : {s s' : Source} {b : Block} {place marks : ℕ} (rest : List ℕ) → Looking s b place 0 → b.seen ≤ place
+pub looking_rest : {s s' : Source} {b b' : Block} {place marks : ℕ} (rest : List ℕ) → Looking s b place 0
+    → b.end ≤ place
     → s'.text.now ≡ s.text.now → length s.text.now < place + 64 → rest ≡ drop place s.text.now
     → marks ≡ mask_l (map is_marked rest) → s'.looks + place ≡ s.looks + length s.text.now
-    → Looking s' (record { base = place; seen = place + length rest; marks = marks }) place 0
-looking_rest {s} {place = place} rest k unseen t few e m n =
+    → b' ≡ record { base = place; end = place + length rest; marks = marks } → Looking s' b' place 0
+looking_rest {s} {place = place} rest k unseen t few e m n is =
     let long : length rest ≡ length s.text.now - place = ap length e ∙ length-drop place s.text.now in
-    looking_read rest k unseen t refl (omega (arith, long, k.within)) (omega (arith, long, few))
+    rw is (looking_read rest k unseen t refl (omega (arith, long, k.within)) (omega (arith, long, few))
     (omega (arith, n, long, k.within))
-    (e ∙ sym (take_all (length rest) (drop place s.text.now) (omega (arith, ap length e)))) m
+    (e ∙ sym (take_all (length rest) (drop place s.text.now) (omega (arith, ap length e)))) m)
 
 -- if the marks of a block are not 0, their number of trailing zeros is that of the bytes before the next mark
-pub found : {text : List ℕ} {place seen marks : ℕ} (width : ℕ) → IsBlock text place seen marks → marks ≢ 0
-    → width ≡ count_trailing_zeros 64 marks → (place + width < seen) × IsNextMark text place (place + width)
-found {text} {place} {seen} {marks} width h n e =
-    let long = length-take-le (seen - place) (drop place text) (omega (arith, length-drop {A = ℕ})) in
+pub found : {text : List ℕ} {place end marks : ℕ} (width : ℕ) → IsBlock text place end marks → marks ≢ 0
+    → width ≡ count_trailing_zeros 64 marks → (place + width < end) × IsNextMark text place (place + width)
+found {text} {place} {end} {marks} width h n e =
+    let long = length-take-le (end - place) (drop place text) (omega (arith, length-drop {A = ℕ})) in
     grind (arith, trailing_mask_l, mask_none, run_in_chunk_le, run_in_chunk_fails, run_in_chunk_stops)
 
 -- if the marks of a block are 0, none of its bytes is marked
-pub found_none : {text : List ℕ} {place seen marks : ℕ} → IsBlock text place seen marks → marks ≡ 0
-    → IsClear text place seen
-found_none {text} {place} {seen} {marks} h e = grind (arith, none_from_empty_mask)
+pub found_none : {text : List ℕ} {place end marks : ℕ} → IsBlock text place end marks → marks ≡ 0
+    → IsClear text place end
+found_none {text} {place} {end} {marks} h e = grind (arith, none_from_empty_mask)
 
 -- the walk can go on from a later place
 pub looking_on : {s : Source} {b : Block} {place more : ℕ} (to : ℕ) → Looking s b place more → place ≤ to
@@ -199,8 +201,8 @@ pub looking_mark : {s : Source} {b : Block} {place to : ℕ} → Looking s b pla
 looking_mark {s} {b} {place} {to} k m = looking_on to k m.forward m.within
 
 -- the walk can go on at the end of its block
-pub looking_seen : {s : Source} {b : Block} {place : ℕ} → Looking s b place 0 → place ≤ b.seen → Looking s b b.seen 0
-looking_seen {s} {b} {place} k l = looking_on b.seen k l k.block.seen_le
+pub looking_end : {s : Source} {b : Block} {place : ℕ} → Looking s b place 0 → place ≤ b.end → Looking s b b.end 0
+looking_end {s} {b} {place} k l = looking_on b.end k l k.block.end_le
 
 -- two stretches without marks, one after the other, are one
 pub clear_then : {text text' : List ℕ} {from place to : ℕ} → text' ≡ text → IsClear text from place
@@ -230,6 +232,9 @@ mark_whole {text} {from} {end} {mark} m e = record {
   marked = λ l. m.marked (omega arith) l;
 }
 
+-- the lemmas for `padded` and `last_marks`
+pub ruleset padding = (marks_padded, padded_is)
+
 -- the lemmas for `next_mark` and `at_mark`
 pub ruleset mark_places = (
   paid_percent,
@@ -237,7 +242,7 @@ pub ruleset mark_places = (
   drop_more,
   looking_mark,
   looking_on,
-  looking_seen,
+  looking_end,
   clear_then,
   mark_then,
 )

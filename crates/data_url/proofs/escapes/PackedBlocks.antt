@@ -39,11 +39,13 @@ rest_is (b ∷ z) r k n over is =
     ]
 
 -- the walk packs what comes before the first stop
-pub packs_front : {c c' : Cursor} {room room' v : List ℕ} {len used end size : ℕ} (z r : List ℕ) (k : ℕ)
+pub packs_front : {c c' : Cursor} {buffer buffer' v : List ℕ} {len used end size : ℕ} (z r : List ℕ) (k : ℕ)
     → v ≡ z ++ replicate k 0 → size ≡ length z → drop c.place (text_of c) ≡ z ++ r → c.place ≤ length (text_of c)
-    → (0 < k → r ≡ []) → IsPacked v size room room' len used end → LooksOn c.source c'.source
-    → c'.place ≡ c.place + used → length room ≡ 512 → length room' ≡ 512 → len ≤ 384 → Packs c c' room room' len end
-packs_front {c} {c'} {room} {room'} {v} {len} {used} {end} {size} z r k vs ss cut within over p on q long long' few =
+    → (0 < k → r ≡ []) → IsPacked v size buffer buffer' len used end → LooksOn c.source c'.source
+    → c'.place ≡ c.place + used → length buffer ≡ 512 → length buffer' ≡ 512 → len ≤ 384
+    → Packs c c' buffer buffer' len end
+packs_front {c} {c'} {buffer} {buffer'} {v} {len} {used} {end} {size} z r k vs ss cut within over p on q
+    long long' few =
     let text = text_of c in
     let x = take used v in
     let y = drop used v in
@@ -66,8 +68,8 @@ packs_front {c} {c'} {room} {room'} {v} {len} {used} {end} {size} z r k vs ss cu
     let after_is : t ≡ drop (c.place + used) text = cc (drop-drop used c.place text) in
     let long_text : used ≤ length text - c.place =
     omega (arith, ap length cut, length-append z r, length-drop c.place text) in
-    let before = length-take-le len room (omega arith) in
-    let after = length-take-le end room' (omega (arith, p.short)) in
+    let before = length-take-le len buffer (omega arith) in
+    let after = length-take-le end buffer' (omega (arith, p.short)) in
     record {
       gathers = record {
         bytes = bytes;
@@ -78,17 +80,17 @@ packs_front {c} {c'} {room} {room'} {v} {len} {used} {end} {size} z r k vs ss cu
           body = cc (w.body_is, same, whole);
           after_is = cc (w.after_is, whole);
         };
-        room_is = p.room_is;
-        len_is = omega (arith, ap length p.room_is, length-append (take len room) bytes, before, after, p.short);
+        buffer_is = p.buffer_is;
+        len_is = omega (arith, ap length p.buffer_is, length-append (take len buffer) bytes, before, after, p.short);
       };
       few = omega (arith, p.short);
       moves = omega (arith, p.some);
     }
 
 -- after bytes that were packed, the walk can go on in a block without bytes, if what is left of its block is not longer
-pub looking_again : {s : Source} {b : Block} {place used : ℕ} → Looking s b place 0 → place + used ≤ b.seen
-    → b.seen - (place + used) ≤ used
-    → Looking s (record { base = place + used; seen = place + used; marks = 0 }) (place + used) 0
-looking_again {s} {b} {place} {used} k l few =
+pub looking_again : {s : Source} {b b' : Block} {place used : ℕ} → Looking s b place 0 → place + used ≤ b.end
+    → b.end - (place + used) ≤ used → b' ≡ record { base = place + used; end = place + used; marks = 0 }
+    → Looking s b' (place + used) 0
+looking_again {s} {b} {b'} {place} {used} k l few is =
     let none : place + used - (place + used) ≡ 0 = omega arith in
     grind (arith, paid_on s.text.now place (place + used) (omega arith))

@@ -128,14 +128,14 @@ length-stops [] = refl
 length-stops (b ∷ s) = ap suc (length-stops s)
 
 -- the tabs and newlines are the marks without '%' and '#'
-pub tabs_are : (s : List ℕ) (marks pcts others : ℕ) → marks ≡ mask_l (map is_marked s) → pcts ≡ percents s
-    → others ≡ hashes s → marks - pcts - others ≡ tabs s
-tabs_are s marks pcts others m p h = omega (arith, m, p, h, marks_are s)
+pub tabs_are : (s : List ℕ) (marks pcts hs : ℕ) → marks ≡ mask_l (map is_marked s) → pcts ≡ percents s
+    → hs ≡ hashes s → marks - pcts - hs ≡ tabs s
+tabs_are s marks pcts hs m p h = omega (arith, m, p, h, marks_are s)
 
 -- the stops of a block, from the bits of its '%', '#', and tabs and newlines
-pub stops_are : (s : List ℕ) (pcts ts others : ℕ) → length s ≡ 64 → pcts ≡ percents s → others ≡ hashes s → ts ≡ tabs s
-    → others + bit_and pcts (bit_or (bit_or (ts / 2) (ts / 4)) (3 * 2 ^ 62)) ≡ mask_l (stops s)
-stops_are s pcts ts others long p h t = let l = late_is s 62 (omega (arith, long)) in cc (stops_split s)
+pub stops_are : (s : List ℕ) (pcts ts hs : ℕ) → length s ≡ 64 → pcts ≡ percents s → hs ≡ hashes s → ts ≡ tabs s
+    → hs + bit_and pcts (bit_or (bit_or (ts / 2) (ts / 4)) (3 * 2 ^ 62)) ≡ mask_l (stops s)
+stops_are s pcts ts hs long p h t = let l = late_is s 62 (omega (arith, long)) in cc (stops_split s)
 
 -- they are bits of a block
 pub stops_fit : (s : List ℕ) → length s ≡ 64 → {n : ℕ} → n ≡ mask_l (stops s) → Fits w64 n

@@ -11,7 +11,7 @@ use Rattle.data_url.specs.{Fetch.{plain_body}, Pieces.{Walk, text_of, IsStretch,
 use Rattle.data_url.specs.{Pieces.{walk_of}, Steps.Digits.{EscapeAt}}
 use Rattle.data_url.specs.Steps.Chunks.{IsBodyFrom, IsBodyPrefix, IsOver, Takes}
 use Rattle.data_url.specs.{Steps.Digits.{cleaned}, Steps.Tail.{BeginsFragment, IsBodyEnd, rest_fragment}}
-use Rattle.data_url.specs.Steps.Walk.{Ended, EndsAt, Gathers, GoesOn, IsClear, IsMarkUpTo, IsPart, Knows}
+use Rattle.data_url.specs.Steps.Walk.{BodyEndsAt, Ended, Gathers, GivesPiece, IsClear, IsMarkUpTo, IsPart, Knows}
 use Rattle.data_url.specs.Steps.Walk.{KnowsAhead}
 use Rattle.data_url.specs.{Steps.Walk.{Looking, LooksOn, MayGather, Pays, Reads, Searching, Spells}, Url.{before}}
 use Rattle.data_url.specs.{Url.{after, front, without_tabs_and_newlines}, declared.escapes.Piece.{Piece}}
@@ -19,7 +19,7 @@ use Rattle.data_url.specs.{declared.escapes.Piece.TheVariants.{Byte, Slice}, dec
 use Rattle.data_url.specs.declared.escapes.cursor.Ahead.TheVariants.{AfterEscape, End, Escape, Unknown}
 use Rattle.data_url.specs.{declared.escapes.cursor.Cursor.{Cursor}, declared.escapes.marks.Block.{Block}}
 use Rattle.data_url.specs.declared.escapes.source.Source.{Source}
-use Rattle.data_url.proofs.escapes.BlockMarks.{copied_wide, looking_on, marks_padded, padded_is}
+use Rattle.data_url.proofs.escapes.BlockMarks.{copied_block, looking_on, marks_padded}
 use Rattle.data_url.proofs.escapes.Reading.{spells_byte, spells_passed, body_shorter, ends_empty, paid_le, paid_on}
 use Rattle.data_url.proofs.escapes.Reading.{percent_nil, spells_clear, spells_escape, spells_none, spells_then}
 use Rattle.data_url.proofs.{percent.Encoding.{decoded_escape}, runs.Runs.{none_or_some}, texts.Bytes.{after_same}}
@@ -99,14 +99,14 @@ byte_part {text} {from} {place} {value} {end} s q =
 -- a walk that goes from its index to the end of a part returns this part
 pub goes_part : {c c' : Cursor} {text : List ℕ} {next most : ℕ} {p : Piece} → text ≡ text_of c
     → IsPart text c.place next p → LooksOn c.source c'.source → c'.place ≡ next → length (bytes_of p) ≤ most
-    → GoesOn c (Some p) c' most
+    → GivesPiece c (Some p) c' most
 goes_part {c} {c'} {text} {next} {most} {p} t h on e few = grind arith
 
 -- a walk that goes on after a stretch, and what is skipped after it, returns the stretch
 pub slice_goes : {c c' : Cursor} {text : List ℕ} {place mark next most : ℕ} {slice : Bor (List ℕ)} → text ≡ text_of c
     → Searching text c.place place mark → place < mark → mark ≤ place + most → is_slice_end (drop mark text) ≡ true
     → Spells text mark next [] [] → slice.now ≡ slice_range text place mark → LooksOn c.source c'.source
-    → c'.place ≡ next → GoesOn c (Some (Slice slice)) c' most
+    → c'.place ≡ next → GivesPiece c (Some (Slice slice)) c' most
 slice_goes {text = text} {place = place} {mark = mark} t s l few ends after is on e =
     let part = slice_part s l ends after is in
     goes_part t (record { reads = part.0; piece_is = part.1 }) on e
@@ -115,7 +115,7 @@ slice_goes {text = text} {place = place} {mark = mark} t s l few ends after is o
 -- a walk returns a stretch that is cut after so many bytes as it may return
 pub slice_cut : {c c' : Cursor} {text : List ℕ} {place to most : ℕ} {slice : Bor (List ℕ)} → text ≡ text_of c
     → Searching text c.place place to → place + most ≡ to → to ≤ length text → slice.now ≡ slice_range text place to
-    → LooksOn c.source c'.source → c'.place ≡ to → GoesOn c (Some (Slice slice)) c' most
+    → LooksOn c.source c'.source → c'.place ≡ to → GivesPiece c (Some (Slice slice)) c' most
 slice_cut {c} {c'} {text} {place} {to} {most} {slice} t s cut within is on e =
     let size : length slice.now ≡ most =
     omega (arith, ap length is, length-take (to - place) (drop place text), length-drop place text) in
@@ -151,7 +151,7 @@ searched {s0} {s} {s1} {from} {place} {to} {end} {mark} a b k m =
 -- a walk that goes from its index to the end of an escape returns its value
 pub byte_next : {c c' : Cursor} {value end most : ℕ} → EscapeAt (text_of c) c.place value end
     → LooksOn c.source c'.source
-    → c'.place ≡ end → 1 ≤ most → GoesOn c (Some (Byte value)) c' most
+    → c'.place ≡ end → 1 ≤ most → GivesPiece c (Some (Byte value)) c' most
 byte_next {c} {c'} {value} {end} q on e some = goes_part refl (byte_part (grind (arith, spells_none)) q) on e some
 
 -- after an escape that was read at once, the walk can go on in the same way
@@ -161,7 +161,7 @@ looking_escape {s} {s'} {b} {place} k t l w = let p = paid_on s.text.now place (
 
 -- a walk that stops at the end of the body ends there
 pub ended_at : {c : Cursor} {s : Source} {b : Block} {mark : ℕ} → Looking s b mark 0 → c.source.text.now ≡ s.text.now
-    → EndsAt s.text.now mark → c.source.looks + mark ≤ s.looks + length s.text.now → c.place ≡ mark → Ended c
+    → BodyEndsAt s.text.now mark → c.source.looks + mark ≤ s.looks + length s.text.now → c.place ≡ mark → Ended c
 ended_at {c} {s} {b} {mark} k t h l e = grind (arith, paid_le)
 
 -- if `ahead` is a, and what a says is true, what `ahead` says is true
@@ -217,33 +217,36 @@ pub end_knows : {c : Cursor} → Looking c.source c.block c.place 0 → c.place 
 end_knows {c} k e = grind (arith, paid_le, drop_all)
 
 -- what is gathered in two steps, one after the other, is gathered in both together
-pub gathers_then : {c c1 c2 : Cursor} {room room1 room2 : List ℕ} {len len1 len2 : ℕ} → Gathers c c1 room room1 len len1
-    → Gathers c1 c2 room1 room2 len1 len2 → Gathers c c2 room room2 len len2
-gathers_then {c} {c1} {c2} {room} {room1} {room2} {len} {len1} {len2} g h = grind (arith, length-append, append_assoc)
+pub gathers_then : {c c1 c2 : Cursor} {buffer buffer1 buffer2 : List ℕ} {len len1 len2 : ℕ}
+    → Gathers c c1 buffer buffer1 len len1
+    → Gathers c1 c2 buffer1 buffer2 len1 len2 → Gathers c c2 buffer buffer2 len len2
+gathers_then {c} {c1} {c2} {buffer} {buffer1} {buffer2} {len} {len1} {len2} g h =
+    grind (arith, length-append, append_assoc)
 
 -- one byte is appended to the buffer
-pub gathers_byte : {c c' : Cursor} {room : List ℕ} {len b : ℕ} → LooksOn c.source c'.source
-    → Reads (text_of c) c.place c'.place (b ∷ []) → len < length room → Gathers c c' room (set room len b) len (len + 1)
-gathers_byte {c} {c'} {room} {len} {b} on r l = grind (arith, take_more_set)
+pub gathers_byte : {c c' : Cursor} {buffer : List ℕ} {len b : ℕ} → LooksOn c.source c'.source
+    → Reads (text_of c) c.place c'.place (b ∷ []) → len < length buffer
+    → Gathers c c' buffer (set buffer len b) len (len + 1)
+gathers_byte {c} {c'} {buffer} {len} {b} on r l = grind (arith, take_more_set)
 
 -- only the walk goes on, and nothing is written
-pub gathers_nothing : {c c' : Cursor} {room : List ℕ} {len : ℕ} → LooksOn c.source c'.source
-    → Reads (text_of c) c.place c'.place [] → Gathers c c' room room len len
-gathers_nothing {c} {c'} {room} {len} on r = grind (arith, append-nil)
+pub gathers_nothing : {c c' : Cursor} {buffer : List ℕ} {len : ℕ} → LooksOn c.source c'.source
+    → Reads (text_of c) c.place c'.place [] → Gathers c c' buffer buffer len len
+gathers_nothing {c} {c'} {buffer} {len} on r = grind (arith, append-nil)
 
 -- a stretch without marks is copied from the block
-pub gathers_clear : {c : Cursor} {room room' : List ℕ} {len : ℕ} (to : ℕ) → MayGather c len → c.place ≤ to
-    → to ≤ c.block.seen → IsClear (text_of c) c.place to
-    → take (len + (to - c.place)) room' ≡ take len room ++ slice_range (text_of c) c.place to
-    → Gathers c (record c { place = to }) room room' len (len + (to - c.place))
-gathers_clear {c} {room} {room'} {len} to m l w clear e =
-    let reads = (spells_clear (text_of c) c.place to l (omega (arith, m.looking.block.seen_le)) clear).reads in
+pub gathers_clear : {c : Cursor} {buffer buffer' : List ℕ} {len : ℕ} (to : ℕ) → MayGather c len → c.place ≤ to
+    → to ≤ c.block.end → IsClear (text_of c) c.place to
+    → take (len + (to - c.place)) buffer' ≡ take len buffer ++ slice_range (text_of c) c.place to
+    → Gathers c (record c { place = to }) buffer buffer' len (len + (to - c.place))
+gathers_clear {c} {buffer} {buffer'} {len} to m l w clear e =
+    let reads = (spells_clear (text_of c) c.place to l (omega (arith, m.looking.block.end_le)) clear).reads in
     let long = length-take-le (to - c.place) (drop c.place (text_of c)) in
     grind (arith, length-drop)
 
 -- after that the walk can gather more
-pub may_clear : {c : Cursor} {len : ℕ} (to : ℕ) → MayGather c len → c.place < c.block.seen → c.place ≤ to
-    → to ≤ c.block.seen → MayGather (record c { place = to }) (len + (to - c.place))
+pub may_clear : {c : Cursor} {len : ℕ} (to : ℕ) → MayGather c len → c.place < c.block.end → c.place ≤ to
+    → to ≤ c.block.end → MayGather (record c { place = to }) (len + (to - c.place))
 may_clear {c} {len} to m h l w = grind (arith, looking_on to m.looking l, m.room.for_block h)
 
 -- an escape is read as the byte of its value
@@ -252,9 +255,10 @@ pub reads_escape : {text : List ℕ} {place value end : ℕ} → EscapeAt text p
 reads_escape e = (spells_escape e).reads
 
 -- the value of an escape directly after another one
-pub gathers_escape : {c0 c c' : Cursor} {room0 room : List ℕ} {len0 len value : ℕ} → Gathers c0 c room0 room len0 len
-    → LooksOn c.source c'.source → EscapeAt (text_of c) c.place value c'.place → len < length room
-    → Gathers c0 c' room0 (set room len value) len0 (len + 1)
+pub gathers_escape : {c0 c c' : Cursor} {buffer0 buffer : List ℕ} {len0 len value : ℕ}
+    → Gathers c0 c buffer0 buffer len0 len
+    → LooksOn c.source c'.source → EscapeAt (text_of c) c.place value c'.place → len < length buffer
+    → Gathers c0 c' buffer0 (set buffer len value) len0 (len + 1)
 gathers_escape g on e l = gathers_then g (gathers_byte on (spells_escape e).reads l)
 
 -- how far the walk still has to go, and whether it is at the end
@@ -266,7 +270,7 @@ pub rest_over : {c : Cursor} → Knows c → has_ended c.ahead ≡ true → plai
 rest_over {c} k e = grind (arith, ends_empty, ended_of)
 
 -- a piece has at least one byte
-piece_some : (p : Piece) {c c' : Cursor} {most : ℕ} → 1 ≤ most → GoesOn c (Some p) c' most → 0 < length (bytes_of p)
+piece_some : (p : Piece) {c c' : Cursor} {most : ℕ} → 1 ≤ most → GivesPiece c (Some p) c' most → 0 < length (bytes_of p)
 piece_some (Slice slice) {c} {c'} {most} some g = elim (cases_lt (length slice.now) most) [
   | inl l ↦ let is = g.piece l in grind (arith, length-drop, length-take-le)
   | inr l ↦ omega arith
@@ -274,7 +278,7 @@ piece_some (Slice slice) {c} {c'} {most} some g = elim (cases_lt (length slice.n
 piece_some (Byte byte) some g = omega arith
 
 -- a walk that has ended returns no further piece
-pub again : (next : Option Piece) {c c' : Cursor} {most : ℕ} → 1 ≤ most → Knows c → GoesOn c next c' most
+pub again : (next : Option Piece) {c c' : Cursor} {most : ℕ} → 1 ≤ most → Knows c → GivesPiece c next c' most
     → has_ended c.ahead ≡ true → next ≡ None
 again None some k g e = refl
 again (Some p) {c} {c'} some k g e =
@@ -291,20 +295,22 @@ pub few_looks : {c : Cursor} → Knows c → c.source.looks ≤ 3 * length (text
 few_looks {c} k = (known_cases c c.ahead k.ahead_is).1
 
 -- if some bytes were gathered, the walk returns these
-pub takes_gathered : {c c' : Cursor} {room0 room : List ℕ} {len : ℕ} → Gathers c c' room0 room 0 len → 0 < len
-    → Takes (walk_of c) (take len room) (walk_of c')
-takes_gathered {c} {c'} {room0} {room} {len} g l =
+pub takes_gathered : {c c' : Cursor} {buffer0 buffer : List ℕ} {len : ℕ} → Gathers c c' buffer0 buffer 0 len → 0 < len
+    → Takes (walk_of c) (take len buffer) (walk_of c')
+takes_gathered {c} {c'} {buffer0} {buffer} {len} g l =
     let short = short_rest (text_of c') c'.place (grind arith) in grind arith
 
 -- if nothing was gathered, and then came a piece, the walk returns the bytes of the piece
-pub takes_next : {c c1 c2 : Cursor} {room0 room : List ℕ} {len most : ℕ} (p : Piece) → Gathers c c1 room0 room 0 len
-    → len ≡ 0 → 1 ≤ most → GoesOn c1 (Some p) c2 most → Takes (walk_of c) (bytes_of p) (walk_of c2)
-takes_next {c} {c1} {c2} {room0} {room} {len} p g e some h =
+pub takes_next : {c c1 c2 : Cursor} {buffer0 buffer : List ℕ} {len most : ℕ} (p : Piece)
+    → Gathers c c1 buffer0 buffer 0 len
+    → len ≡ 0 → 1 ≤ most → GivesPiece c1 (Some p) c2 most → Takes (walk_of c) (bytes_of p) (walk_of c2)
+takes_next {c} {c1} {c2} {buffer0} {buffer} {len} p g e some h =
     let short = short_rest (text_of c2) c2.place (grind arith) in grind (arith, piece_some p some h)
 
 -- if nothing was gathered, and then came no piece, the walk is at its end
-pub over_next : {c c1 c2 : Cursor} {room0 room : List ℕ} {len most : ℕ} → Gathers c c1 room0 room 0 len → len ≡ 0
-    → GoesOn c1 None c2 most → Knows c2 → IsOver (walk_of c) (walk_of c2)
+pub over_next : {c c1 c2 : Cursor} {buffer0 buffer : List ℕ} {len most : ℕ} → Gathers c c1 buffer0 buffer 0 len
+    → len ≡ 0
+    → GivesPiece c1 None c2 most → Knows c2 → IsOver (walk_of c) (walk_of c2)
 over_next {c} {c1} {c2} g e h k = grind (arith, rest_over)
 
 -- the lemmas for pieces
@@ -326,7 +332,7 @@ pub ruleset gathering = (gathers_byte, gathers_nothing, gathers_then, gathers_es
 pub ruleset walks = (stretches, gathering, marks_padded, spells_none, spells_then)
 
 -- the lemmas for `Source`
-pub ruleset sources = (copied_wide, marks_padded, padded_is, hash_at, drop_all, IsCharBoundary-after_ascii)
+pub ruleset sources = (copied_block, hash_at, drop_all, IsCharBoundary-after_ascii)
 
 -- a walk is within its text
 placed : (c : Cursor) (a : Ahead) → KnowsAhead c a → c.place ≤ length (text_of c)

@@ -10,7 +10,7 @@ use Rattle.std.proofs.lemmas.List.Sums.{list_all-from_AllPass, prefix_len-le-len
 use Rattle.std.{specs.Char.{is_ascii_whitespace}, specs.List.{list_all, prefix_len, filter, list_any}}
 use Rattle.data_url.specs.Base64.{decoded, first_fault, left_padding, left_symbols, left_text}
 use Rattle.data_url.specs.{Base64.{groups, is_symbol, symbol_value, values, after_groups}, Laws.{GoesOn}}
-use Rattle.data_url.specs.{Laws.{TwoFeeds}, Steps.Groups.{Fills, IsOverGap, is_symbol_or_space}}
+use Rattle.data_url.specs.{Laws.{TwoFeeds}, Steps.Groups.{AddsGroups, IsOverGap, is_symbol_or_space}}
 use Rattle.data_url.specs.Steps.Lanes.{DecodesFront}
 use Rattle.data_url.proofs.forgiving_base64.Padding.{after_groups-append, after_groups-map, before-append, before_none}
 use Rattle.data_url.proofs.forgiving_base64.Padding.{any_filter, filter_every, classes, every_list_all, filter_all}
@@ -79,13 +79,14 @@ symbols_kept [] = refl
 symbols_kept (c ∷ t) = grind (arith, symbols_kept t)
 
 -- no bytes are read
-pub fills_nothing : (held : List ℕ) → Fills held [] held
+pub adds_nothing : (held : List ℕ) → AddsGroups held [] held
 unfolding groups
-fills_nothing held = grind (arith, append-nil)
+adds_nothing held = grind (arith, append-nil)
 
--- a text fills held to h1, and then another fills h1 to h2
-pub fills_then : {held h1 h2 : List ℕ} (a b : List ℕ) → Fills held a h1 → Fills h1 b h2 → Fills held (a ++ b) h2
-fills_then {held} {h1} {h2} a b f g =
+-- the groups of a text and then those of another are added
+pub adds_then : {held h1 h2 : List ℕ} (a b : List ℕ) → AddsGroups held a h1 → AddsGroups h1 b h2
+    → AddsGroups held (a ++ b) h2
+adds_then {held} {h1} {h2} a b f g =
     let x = filter is_symbol a in
     let y = filter is_symbol b in
     let both = filter-append is_symbol a b in
@@ -115,19 +116,19 @@ put_keeps old new row n h e =
 pub record Leaves (held text rest held' : List ℕ) : Type 0 where
   pub front : List ℕ
   pub text_is : text ≡ front ++ rest
-  pub fills : Fills held front held'
+  pub added : AddsGroups held front held'
 
 -- before any group is read
 pub leaves_all : (held text : List ℕ) → Leaves held text text held
-leaves_all held text = record { front = []; text_is = refl; fills = fills_nothing held }
+leaves_all held text = record { front = []; text_is = refl; added = adds_nothing held }
 
 -- some more groups are read
-pub leaves_then : {held h1 h2 text rest : List ℕ} (n : ℕ) → Leaves held text rest h1 → Fills h1 (take n rest) h2
+pub leaves_then : {held h1 h2 text rest : List ℕ} (n : ℕ) → Leaves held text rest h1 → AddsGroups h1 (take n rest) h2
     → Leaves held text (take (length rest - n) (drop n rest)) h2
 leaves_then {rest = rest} n l f = rw (take_rest rest n) (record {
   front = l.front ++ take n rest;
   text_is = cc (l.text_is, append_assoc l.front (take n rest) (drop n rest), take-append-drop n rest);
-  fills = fills_then l.front (take n rest) l.fills f;
+  added = adds_then l.front (take n rest) l.added f;
 })
 
 -- a row of a text has sixteen bytes
@@ -200,11 +201,11 @@ front_symbols row text m k front all spaces =
     )
 
 -- the groups of t bytes of a text are held, if a row that begins with their symbols was decoded and put after n bytes
-row_fills : (text old new bytes row : List ℕ) (n m t : ℕ)
+row_adds : (text old new bytes row : List ℕ) (n m t : ℕ)
     → n + 16 ≤ length old → take (n + 16) new ≡ take n old ++ bytes → DecodesFront row bytes → m ≤ 4 → length row ≡ 16
     → (list_all is_symbol_or_space (take t text) ≡ true) × (filter is_symbol (take t text) ≡ take (4 * m) row)
-    → Fills (take n old) (take t text) (take (n + 3 * m) new)
-row_fills text old new bytes row n m t room put decodes few long are =
+    → AddsGroups (take n old) (take t text) (take (n + 3 * m) new)
+row_adds text old new bytes row n m t room put decodes few long are =
     let size : n + 3 * m ≡ length (take n old) + 3 * m = omega (arith, length-take-le n old (omega arith)) in
     let each = ap (list_all is_symbol) (sym are.1) ∙ symbols_kept (take t text) in
     record {
@@ -229,7 +230,7 @@ pub row_leaves : {held text rest : List ℕ} (old new bytes row : List ℕ) (n m
     → (list_all is_symbol_or_space (take t rest) ≡ true) × (filter is_symbol (take t rest) ≡ take (4 * m) row)
     → Leaves held text (take (length rest - t) (drop t rest)) (take (n + 3 * m) new)
 row_leaves old new bytes row n m t before room put decodes few long are =
-    leaves_then t before (row_fills _ old new bytes row n m t room put decodes few long are)
+    leaves_then t before (row_adds _ old new bytes row n m t room put decodes few long are)
 
 -- the same, where the row begins at a place in the text, and k bytes of white space follow its m groups
 pub row_leaves_at : {held : List ℕ} (text old new bytes row : List ℕ) (at n m k : ℕ)
@@ -264,24 +265,24 @@ groups_within text row n m after is groups =
     )
 
 -- if a row was decoded and put after n bytes, the groups that it begins with are held
-pub front_fills : (old new bytes row : List ℕ) (n m : ℕ) → length row ≡ 16 → m ≡ prefix_len is_symbol row / 4
+pub front_adds : (old new bytes row : List ℕ) (n m : ℕ) → length row ≡ 16 → m ≡ prefix_len is_symbol row / 4
     → n + 16 ≤ length old → take (n + 16) new ≡ take n old ++ bytes → DecodesFront row bytes
-    → Fills (take n old) (take (4 * m) row) (take (n + 3 * m) new)
-front_fills old new bytes row n m long groups room put decodes =
+    → AddsGroups (take n old) (take (4 * m) row) (take (n + 3 * m) new)
+front_adds old new bytes row n m long groups room put decodes =
     let within : 4 * m ≤ prefix_len is_symbol row = omega (arith, groups) in
     let all = all_before is_symbol row (prefix_len is_symbol row) (4 * m) (prefix_passes is_symbol row) within in
     let k : 4 * m + 0 ≡ 4 * m = omega arith in
     let are = front_symbols row row m 0 refl all refl in
-    row_fills row old new bytes row n m (4 * m) room put decodes
+    row_adds row old new bytes row n m (4 * m) room put decodes
     (omega (arith, groups, prefix_len-le-length is_symbol row, long)) long (rw k at are)
 
 -- all that was read
 pub leaves_read : {held text rest held' : List ℕ} → Leaves held text rest held'
-    → (length rest ≤ length text) × Fills held (take (length text - length rest) text) held'
+    → (length rest ≤ length text) × AddsGroups held (take (length text - length rest) text) held'
 leaves_read {text = text} {rest = rest} l =
     let size = ap length l.text_is ∙ length-append l.front rest in
     let n : length text - length rest ≡ length l.front = omega (arith, size) in
-    (omega (arith, size), rw (n, l.text_is, take_at l.front rest (length l.front) refl) l.fills)
+    (omega (arith, size), rw (n, l.text_is, take_at l.front rest (length l.front) refl) l.added)
 
 -- A text that is fed in two parts.
 

@@ -9,16 +9,19 @@ use Rattle.std.{proofs.lemmas.List.Folds.{list_all-append, list_all_more}, specs
 use Rattle.std.{specs.Option.{option_or}, specs.Result.{result_err}}
 use Rattle.data_url.specs.Base64.{Kind, after_groups, first_fault, groups, is_symbol, left_padding, left_symbols}
 use Rattle.data_url.specs.{Base64.{symbol_value}, Decoder.{Feeds, IsLeft, State, left_over}, Mime.{Every}, Run.{IsRun}}
-use Rattle.data_url.specs.{Run.{joined_pieces}, Steps.Groups.{Fills, IsWhole, held_bytes, is_symbol_or_space}}
-use Rattle.data_url.specs.Steps.Holding.{Adds, CallsOnce, EndsWithin, FeedsFront, Gains, IsBetweenGroups, Reads}
-use Rattle.data_url.specs.{Steps.Holding.{ReadsTo, Refuses}, Steps.Window.{is_plain}}
+use Rattle.data_url.specs.Run.{joined_pieces}
+use Rattle.data_url.specs.Steps.Groups.{AddsGroups, IsWholeGroups, held_bytes, is_symbol_or_space}
+use Rattle.data_url.specs.Steps.Holding.{CallsOnce, Completes, EndsWithin, FeedsFront, Gains, IsBetweenGroups}
+use Rattle.data_url.specs.Steps.Holding.{ReadsHolding}
+use Rattle.data_url.specs.{Steps.Holding.{ReadsTo, Refuses}, Steps.Window.{is_no_hash_or_percent}}
 use Rattle.data_url.specs.declared.forgiving_base64.DecodeError.{DecodeError}
 use Rattle.data_url.specs.declared.forgiving_base64.DecodeError.TheVariants.{InvalidBase64, WriteError}
 use Rattle.data_url.specs.declared.forgiving_base64.held.HeldGroups.{HeldGroups}
 use Rattle.data_url.proofs.{forgiving_base64.Groups.{symbols_alone}, forgiving_base64.Padding.{every_list_all}}
 use Rattle.data_url.proofs.forgiving_base64.Padding.{fault-append, fault_byte, fault_none, filter_all, is_pad, is_bad}
 use Rattle.data_url.proofs.{forgiving_base64.Padding.{length-after_groups, passed}, forgiving_base64.Steps.{IsSound}}
-use Rattle.data_url.proofs.forgiving_base64.Steps.{adds_none, adds_text, fault_space, fault_symbol, feeds_then, has_pad}
+use Rattle.data_url.proofs.forgiving_base64.Steps.{completes_none, completes_text, fault_space, fault_symbol}
+use Rattle.data_url.proofs.forgiving_base64.Steps.{feeds_then, has_pad}
 use Rattle.data_url.proofs.forgiving_base64.Steps.{left_goes_on, one_call, told_call}
 use Rattle.data_url.proofs.runs.Runs.{joined_pieces-append, match_at, match_none, refusal-append, run-append}
 
@@ -49,7 +52,7 @@ allowed_pads (c ∷ t) h =
     ap (λ s. cond s (c ∷ filter is_pad t) (filter is_pad t)) (one_allowed c p.0).1 ∙ allowed_pads t p.1
 
 -- a byte that is no fault is neither '#' nor '%'
-unmarked : (seen : Bool) (c : ℕ) → is_bad seen c ≡ false → is_plain c ≡ true
+unmarked : (seen : Bool) (c : ℕ) → is_bad seen c ≡ false → is_no_hash_or_percent c ≡ true
 unmarked seen c h = elim (cases_Bool (eqb c 35)) [
   | inl e ↦ absurd (true≢false (rw (eqb-true c 35 e) at h))
   | inr e ↦ elim (cases_Bool (eqb c 37)) [
@@ -59,23 +62,24 @@ unmarked seen c h = elim (cases_Bool (eqb c 35)) [
 ]
 
 -- a text without a fault has no '#' and no '%'
-plain_byte : (t : List ℕ) (seen : Bool) → fault_byte seen t ≡ None → list_all is_plain t ≡ true
+unescaped_byte : (t : List ℕ) (seen : Bool) → fault_byte seen t ≡ None → list_all is_no_hash_or_percent t ≡ true
 unfolding fault_byte
-plain_byte [] seen h = refl
-plain_byte (c ∷ t) seen h =
+unescaped_byte [] seen h = refl
+unescaped_byte (c ∷ t) seen h =
     let k = passed (is_bad seen c) c (fault_byte (seen || is_pad c) t) h in
-    ap (λ x. x && list_all is_plain t) (unmarked seen c k.0) ∙ plain_byte t (seen || is_pad c) k.1
+    ap (λ x. x && list_all is_no_hash_or_percent t) (unmarked seen c k.0) ∙ unescaped_byte t (seen || is_pad c) k.1
 
 -- if the text after u has no fault, it has no '#' and no '%'
-pub plain_after : (u t : List ℕ) → first_fault (u ++ t) ≡ None → list_all is_plain t ≡ true
-plain_after u t h =
-    let all = sym (list_all-append is_plain u t) ∙ plain_byte (u ++ t) false (fault_none (u ++ t) h) in
-    (and_parts (list_all is_plain u) (list_all is_plain t) all).1
+pub unescaped_after : (u t : List ℕ) → first_fault (u ++ t) ≡ None → list_all is_no_hash_or_percent t ≡ true
+unescaped_after u t h =
+    let all = sym (list_all-append is_no_hash_or_percent u t) ∙ unescaped_byte (u ++ t) false (fault_none (u ++ t) h) in
+    (and_parts (list_all is_no_hash_or_percent u) (list_all is_no_hash_or_percent t) all).1
 
 -- one more byte that is neither '#' nor '%'
-pub plain_more : (t : List ℕ) (at : ℕ) → at < length t → list_all is_plain (take at t) ≡ true
-    → is_plain (get_or t at 0) ≡ true → list_all is_plain (take (at + 1) t) ≡ true
-plain_more t at l h k = list_all_more is_plain t at 0 l ∙ ap (λ x. x && is_plain (get_or t at 0)) h ∙ k
+pub unescaped_more : (t : List ℕ) (at : ℕ) → at < length t → list_all is_no_hash_or_percent (take at t) ≡ true
+    → is_no_hash_or_percent (get_or t at 0) ≡ true → list_all is_no_hash_or_percent (take (at + 1) t) ≡ true
+unescaped_more t at l h k = list_all_more is_no_hash_or_percent t at 0 l
+    ∙ ap (λ x. x && is_no_hash_or_percent (get_or t at 0)) h ∙ k
 
 -- Text that is read without a call
 
@@ -89,25 +93,27 @@ none_from None e = refl
 none_from (Some x) e = absurd (true≢false e)
 
 module _ {F : Type 0} where
-  -- if d has no padding, a text of symbols and white space adds the groups of its symbols, after those left over in d
-  adds_spaced : {d d' : State F} (t k : List ℕ) {bytes : List ℕ} → IsSound d.symbols d.padding → d.padding ≡ 0
+  -- if d has no padding, a text of symbols and white space completes the groups of its symbols, after those left over
+  -- in d
+  completes_spaced : {d d' : State F} (t k : List ℕ) {bytes : List ℕ} → IsSound d.symbols d.padding → d.padding ≡ 0
       → list_all is_symbol_or_space t ≡ true → k ≡ filter is_symbol t
       → bytes ≡ groups (map symbol_value (d.symbols ++ k)) → d'.closure ≡ d.closure
-      → d'.symbols ≡ after_groups (d.symbols ++ k) → d'.padding ≡ 0 → d'.failed ≡ false → Adds d t bytes d'
-  adds_spaced {d} t k {bytes} s none alone is_k is same symbols padding failed =
-      adds_text t k bytes 0 s
+      → d'.symbols ≡ after_groups (d.symbols ++ k) → d'.padding ≡ 0 → d'.failed ≡ false → Completes d t bytes d'
+  completes_spaced {d} t k {bytes} s none alone is_k is same symbols padding failed =
+      completes_text t k bytes 0 s
       (ap (λ p. fault_byte (has_pad p) t) none ∙ allowed_fault t alone)
       (sym is_k) (ap length (allowed_pads t alone)) is same symbols
       (padding ∙ ap (λ p. min (p + 0) 3) (sym none)) failed
 
   -- if d is between groups, whole groups add their bytes
-  pub adds_whole : {d : State F} (t : List ℕ) {bytes : List ℕ} → IsBetweenGroups d → d.failed ≡ false → IsWhole t
-      → bytes ≡ groups (map symbol_value (filter is_symbol t)) → Adds d t bytes d
-  adds_whole {d} t {bytes} none going w is =
+  pub completes_whole : {d : State F} (t : List ℕ) {bytes : List ℕ} → IsBetweenGroups d → d.failed ≡ false
+      → IsWholeGroups t
+      → bytes ≡ groups (map symbol_value (filter is_symbol t)) → Completes d t bytes d
+  completes_whole {d} t {bytes} none going w is =
       let k = filter is_symbol t in
       let P : List ℕ → Type 0 = λ q. (bytes ≡ groups (map symbol_value (q ++ k))) × (q ≡ after_groups (q ++ k)) in
       let parts = subst P (sym none.0) (is, sym (nil_from_length (after_groups k) (length-after_groups k ∙ w.whole))) in
-      adds_spaced t k (record {
+      completes_spaced t k (record {
         every = subst (Every is_symbol) (sym none.0) tt;
         few = omega (arith, ap length none.0);
         few_padding = omega (arith, none.1);
@@ -116,24 +122,24 @@ module _ {F : Type 0} where
 
   -- whole groups at the start of the text
   pub gains_groups : {d : State F} {held text held' : List ℕ} (taken : ℕ) → 0 < taken → taken ≤ length text
-      → IsBetweenGroups d → d.failed ≡ false → Fills held (take taken text) held' → Gains d held text taken d held'
+      → IsBetweenGroups d → d.failed ≡ false → AddsGroups held (take taken text) held' → Gains d held text taken d held'
   gains_groups taken some within none going f = record {
     some = some;
     within = within;
     more = _;
-    adds = adds_whole _ none going f.whole refl;
+    completes = completes_whole _ none going f.whole refl;
     held_are = f.held_are;
   }
 
   -- the first byte of a text, and then the bytes of the group that it completes, if any, after those that are held
   pub gains_one : {d d' : State F} {held held' : List ℕ} (text more : List ℕ) → 1 ≤ length text
-      → Adds d (get_or text 0 0 ∷ []) more d' → held' ≡ held ++ more → Gains d held text 1 d' held'
+      → Completes d (get_or text 0 0 ∷ []) more d' → held' ≡ held ++ more → Gains d held text 1 d' held'
   gains_one [] more some a e = absurd (omega arith)
   gains_one (c ∷ t) more some a e = grind arith
 
   -- the first byte of a text, which completes no group
   pub gains_none : {d d' : State F} {held held' : List ℕ} (text : List ℕ) → 1 ≤ length text
-      → Adds d (get_or text 0 0 ∷ []) [] d' → held' ≡ held → Gains d held text 1 d' held'
+      → Completes d (get_or text 0 0 ∷ []) [] d' → held' ≡ held → Gains d held text 1 d' held'
   gains_none {held = held} text some a e = gains_one text [] some a (e ∙ sym (append-nil held))
 
 -- `len` is the number of bytes that are held
@@ -182,8 +188,8 @@ module _ {F E : Type 0} (step : F → List ℕ → Result (Unit {0}) E → F →
   -- Text that is read
 
   -- nothing was read
-  pub reads_none : {d : State F} → IsSound d.symbols d.padding → d.failed ≡ false → Reads step d [] [] d
-  reads_none s going = let a = adds_none s going in record {
+  pub reads_none : {d : State F} → IsSound d.symbols d.padding → d.failed ≡ false → ReadsHolding step d [] [] d
+  reads_none s going = let a = completes_none s going in record {
     run = [];
     ran = refl;
     accepted = refl;
@@ -195,8 +201,8 @@ module _ {F E : Type 0} (step : F → List ℕ → Result (Unit {0}) E → F →
   }
 
   -- some more text is read
-  reads_then : {d d1 d2 : State F} {t u held more : List ℕ} → Reads step d t held d1 → Adds d1 u more d2
-      → Reads step d (t ++ u) (held ++ more) d2
+  reads_then : {d d1 d2 : State F} {t u held more : List ℕ} → ReadsHolding step d t held d1 → Completes d1 u more d2
+      → ReadsHolding step d (t ++ u) (held ++ more) d2
   reads_then {d} {d1} {d2} {t} {u} {held} {more} r a =
       let on = left_goes_on (left_over d ++ t) u r.no_fault r.left in
       let same = append_assoc (left_over d) t u in
@@ -216,26 +222,26 @@ module _ {F E : Type 0} (step : F → List ℕ → Result (Unit {0}) E → F →
 
   -- some more of s is read
   pub reads_more : {d d1 d2 : State F} {held more : List ℕ} (s : List ℕ) (at n : ℕ)
-      → Reads step d (take at s) held d1 → Adds d1 (take n (take (length s - at) (drop at s))) more d2
-      → Reads step d (take (at + n) s) (held ++ more) d2
+      → ReadsHolding step d (take at s) held d1 → Completes d1 (take n (take (length s - at) (drop at s))) more d2
+      → ReadsHolding step d (take (at + n) s) (held ++ more) d2
   reads_more s at n r a = rw (sym (taken_more s at n)) (reads_then r a)
 
   -- what is read without the closure is read with it
-  adds_lifted : {f : F} {failed : Bool} {d d' : State (Unit {0})} {t bytes : List ℕ} → failed ≡ false
-      → Adds d t bytes d' → Adds (with_closure f failed d) t bytes (with_closure f failed d')
-  adds_lifted going a = grind arith
+  completes_lifted : {f : F} {failed : Bool} {d d' : State (Unit {0})} {t bytes : List ℕ} → failed ≡ false
+      → Completes d t bytes d' → Completes (with_closure f failed d) t bytes (with_closure f failed d')
+  completes_lifted going a = grind arith
 
   -- the bytes of one more group of steps
   pub reads_gained : {d : State F} {f : F} {failed : Bool} {d1 d2 : State (Unit {0})} {held held' : List ℕ} (s : List ℕ)
-      (at n : ℕ) → Reads step d (take at s) held (with_closure f failed d1)
+      (at n : ℕ) → ReadsHolding step d (take at s) held (with_closure f failed d1)
       → Gains d1 held (take (length s - at) (drop at s)) n d2 held'
-      → Reads step d (take (at + n) s) held' (with_closure f failed d2)
-  reads_gained s at n r g = rw g.held_are (reads_more s at n r (adds_lifted r.going g.adds))
+      → ReadsHolding step d (take (at + n) s) held' (with_closure f failed d2)
+  reads_gained s at n r g = rw g.held_are (reads_more s at n r (completes_lifted r.going g.completes))
 
   -- the closure accepts a front of the bytes that are held
   pub reads_called : {d d1 d2 : State F} {t : List ℕ} (a b : List ℕ) → (length b + 2) / 3 < (length a + length b + 2)
       / 3
-      → Reads step d t (a ++ b) d1 → CallsOnce step d1 a (Ok tt) d2 → Reads step d t b d2
+      → ReadsHolding step d t (a ++ b) d1 → CallsOnce step d1 a (Ok tt) d2 → ReadsHolding step d t b d2
   reads_called {d} {d1} {d2} a b some r c =
       let call = record { piece = a; answer = c.told; after = d2.closure } ∷ [] in
       record {
@@ -258,7 +264,7 @@ module _ {F E : Type 0} (step : F → List ℕ → Result (Unit {0}) E → F →
   -- if the closure refuses a front of the bytes that are held, its error ends the feeding
   pub reads_refused : {d d1 d2 : State F} {t : List ℕ} {x : DecodeError E} (a b : List ℕ)
       → (length b + 2) / 3 < (length a + length b + 2) / 3
-      → Reads step d t (a ++ b) d1 → CallsOnce step d1 a (Err x) d2 → Feeds step d t (Err x) d2
+      → ReadsHolding step d t (a ++ b) d1 → CallsOnce step d1 a (Err x) d2 → Feeds step d t (Err x) d2
   reads_refused {d} {d1} {d2} {t} {x} a b some h c =
       let call = record { piece = a; answer = c.told; after = d2.closure } ∷ [] in
       let joined : joined_pieces (h.run ++ call) ≡ joined_pieces h.run ++ a =
@@ -275,13 +281,14 @@ module _ {F E : Type 0} (step : F → List ℕ → Result (Unit {0}) E → F →
 
   -- the closure is called with a front of the bytes that are held
   pub reads_passed : {d d1 d2 : State F} {t : List ℕ} (r : Result (Unit {0}) (DecodeError E)) (a b : List ℕ)
-      → (length b + 2) / 3 < (length a + length b + 2) / 3 → Reads step d t (a ++ b) d1 → CallsOnce step d1 a r d2
-      → MatchResult r (λ u. Reads step d t b d2) (λ e. Feeds step d t (Err e) d2)
+      → (length b + 2) / 3 < (length a + length b + 2) / 3 → ReadsHolding step d t (a ++ b) d1
+      → CallsOnce step d1 a r d2
+      → MatchResult r (λ u. ReadsHolding step d t b d2) (λ e. Feeds step d t (Err e) d2)
   reads_passed (Ok u) a b some h c = reads_called a b some h c
   reads_passed (Err e) a b some h c = reads_refused a b some h c
 
   -- a text was fed if it was read and no bytes are held
-  pub reads_feeds : {d d1 : State F} {t : List ℕ} → Reads step d t [] d1 → Feeds step d t (Ok tt) d1
+  pub reads_feeds : {d d1 : State F} {t : List ℕ} → ReadsHolding step d t [] d1 → Feeds step d t (Ok tt) d1
   reads_feeds {d} {d1} {t} h = record {
     run = h.run;
     ran = h.ran;
@@ -300,8 +307,8 @@ module _ {F E : Type 0} (step : F → List ℕ → Result (Unit {0}) E → F →
 
   -- the text before a fault is read
   pub reads_to : {d d3 : State F} {g : F} {failed : Bool} {d1 d2 : State (Unit {0})} {held : List ℕ} {kind : Kind}
-      (s : List ℕ) (at : ℕ) → at < length s → Reads step d (take at s) held (with_closure g failed d1)
-      → Reads step d (take at s) [] d3 → Refuses d1 (slice_index (take (length s - at) (drop at s)) 0) kind d2
+      (s : List ℕ) (at : ℕ) → at < length s → ReadsHolding step d (take at s) held (with_closure g failed d1)
+      → ReadsHolding step d (take at s) [] d3 → Refuses d1 (slice_index (take (length s - at) (drop at s)) 0) kind d2
       → ReadsTo step d s at (Some kind) d3
   reads_to {d} {d3} {d1 = d1} {kind = kind} s at inside before after is =
       let left : left_over d3 ≡ left_over d1 = cc (
@@ -325,29 +332,30 @@ module _ {F E : Type 0} (step : F → List ℕ → Result (Unit {0}) E → F →
       subst P more (feeds_then step (reads_feeds r.reads) (refuses_feeds r.ends.1 same))
 
   -- the text of a tail that was read has no '#' and no '%'
-  pub reads_plain : {d d' : State F} {t held : List ℕ} → Reads step d t held d' → list_all is_plain t ≡ true
-  reads_plain {d} {t = t} r = plain_after (left_over d) t r.no_fault
+  pub reads_unescaped : {d d' : State F} {t held : List ℕ} → ReadsHolding step d t held d'
+      → list_all is_no_hash_or_percent t ≡ true
+  reads_unescaped {d} {t = t} r = unescaped_after (left_over d) t r.no_fault
 
   -- the front of a tail was read
   pub reads_front : {d d' : State F} {tail : List ℕ} {place : ℕ} → place ≤ length tail
-      → Reads step d (take place tail) [] d' → FeedsFront step d tail place (Ok tt) d'
-  reads_front l r = record { within = l; plain = reads_plain r; feeds = reads_feeds r }
+      → ReadsHolding step d (take place tail) [] d' → FeedsFront step d tail place (Ok tt) d'
+  reads_front l r = record { within = l; unescaped = reads_unescaped r; feeds = reads_feeds r }
 
   -- an error of the closure ends the feeding of a text that has no fault up to an index
   pub ends_within : {d d1 d2 : State F} {s held : List ℕ} {x : DecodeError E} (at : ℕ) → at ≤ length s
-      → Reads step d (take at s) held d1 → Feeds step d (take at s) (Err x) d2 → EndsWithin step d s x d2
+      → ReadsHolding step d (take at s) held d1 → Feeds step d (take at s) (Err x) d2 → EndsWithin step d s x d2
   ends_within at l r f = record { at = at; within = l; no_fault = r.no_fault; feeds = f }
 
   -- a block of symbols is read
   pub block_reads : {d d1 : State F} {bytes : List ℕ} (s : List ℕ) (at : ℕ) → IsBetweenGroups d1 → at + 64 ≤ length s
       → true ≡ list_all is_symbol (take 64 (drop at s)) → bytes ≡ groups (map symbol_value (take 64 (drop at s)))
-      → Reads step d (take at s) [] d1 → Reads step d (take (at + 64) s) bytes d1
+      → ReadsHolding step d (take at s) [] d1 → ReadsHolding step d (take (at + 64) s) bytes d1
   block_reads {d} {d1} {bytes} s at none within all is r =
       let block = take 64 (drop at s) in
       let long : length block ≡ 64 = length-take-le 64 (drop at s) (omega (arith, length-drop at s)) in
       let alone = filter_all is_symbol block (every_list_all block (sym all)) in
       let joined : take at s ++ block ≡ take (at + 64) s = cc (take-add at 64 s) in
-      subst (λ t. Reads step d t bytes d1) joined (reads_then r (adds_whole block none r.going (record {
+      subst (λ t. ReadsHolding step d t bytes d1) joined (reads_then r (completes_whole block none r.going (record {
         spaced = symbols_alone block (sym all);
         whole = omega (arith, long, ap length alone);
       }) (cc (is, alone))))

@@ -8,7 +8,7 @@ use Rattle.std.proofs.lemmas.Simd.{below_from_Fits, length-chunk, pick_l_left, p
 use Rattle.std.proofs.lemmas.Simd.{tops_compared, zip2_splat}
 use Rattle.std.specs.List.{list_all, range_with_len}
 use Rattle.data_url.specs.{Base64.{group_number, groups, is_symbol, symbol_value}, Steps.Lanes.{DecodesFront}}
-use Rattle.data_url.specs.Steps.Lanes.{offset_row, number_bytes, numbers, twelves, value_of}
+use Rattle.data_url.specs.Steps.Lanes.{lane_value, number_bytes, numbers, offset_row, twelves}
 use Rattle.data_url.specs.declared.forgiving_base64.alphabet.TheConstants.{THREE_QUARTERS}
 use Rattle.data_url.proofs.classes.Lookups.{extracted, extracted_is, first_row, four_rows}
 use Rattle.data_url.proofs.forgiving_base64.Vectors.{chosen, joined, each_take, front_values}
@@ -149,7 +149,7 @@ front_bytes (suc m) (n ∷ ns) =
     rw e (ap (λ t. n / 65536 % 256 ∷ n / 256 % 256 ∷ n % 256 ∷ t) (front_bytes m ns))
 
 -- the bytes of the numbers of a block begin with those of the groups of symbols that its first row begins with
-pub row_is : (s w vs ns r : List ℕ) → length s ≡ 16 → Each1 (Fits w8) s → w ≡ four_rows s → vs ≡ map value_of w
+pub row_is : (s w vs ns r : List ℕ) → length s ≡ 16 → Each1 (Fits w8) s → w ≡ four_rows s → vs ≡ map lane_value w
     → ns ≡ numbers vs → length r ≡ 64 → twelves r ≡ number_bytes ns → DecodesFront s (extracted 0 r)
 row_is s w vs ns r long fits f p q size o m few all =
     let front = front_values (take (4 * m) s) (each_take (4 * m) s fits) all in
@@ -159,11 +159,11 @@ row_is s w vs ns r long fits f p q size o m few all =
     let row = sym (take-take (4 * m) 16 (four_rows s) (omega (arith, few))) ∙ ap (take (4 * m)) (first_row s long) in
     ap (take (3 * m)) (extracted_is r 0 size (omega arith) tt) ∙ take-take (3 * m) 16 r (omega (arith, within))
     ∙ sym (take-take (3 * m) 12 r within) ∙ ap (take (3 * m)) (sym first) ∙ take-take (3 * m) 12 (twelves r) within
-    ∙ ap (take (3 * m)) (o ∙ ap number_bytes (q ∙ ap numbers (p ∙ ap (map value_of) f)))
-    ∙ front_bytes m (numbers (map value_of (four_rows s)))
-    ∙ ap number_bytes (front_numbers m (map value_of (four_rows s)))
-    ∙ ap (λ v. number_bytes (numbers v)) (take-map value_of (4 * m) (four_rows s) ∙ ap (map value_of) row)
-    ∙ groups_are (map value_of (take (4 * m) s)) front.1 ∙ ap groups front.0
+    ∙ ap (take (3 * m)) (o ∙ ap number_bytes (q ∙ ap numbers (p ∙ ap (map lane_value) f)))
+    ∙ front_bytes m (numbers (map lane_value (four_rows s)))
+    ∙ ap number_bytes (front_numbers m (map lane_value (four_rows s)))
+    ∙ ap (λ v. number_bytes (numbers v)) (take-map lane_value (4 * m) (four_rows s) ∙ ap (map lane_value) row)
+    ∙ groups_are (map lane_value (take (4 * m) s)) front.1 ∙ ap groups front.0
 
 -- Blocks
 
@@ -244,9 +244,9 @@ module _ (v : List ℕ) (long : length v ≡ 64) (fits : Each1 (Fits w8) v) wher
       ∙ ap twelves (pick_l_whole 0 v 64 long)
 
 -- the bytes of the numbers of the values of symbols are those of their groups
-pub block_is : (s vs ns r : List ℕ) → list_all is_symbol s ≡ true → Each1 (Fits w8) s → vs ≡ map value_of s → ns ≡
+pub block_is : (s vs ns r : List ℕ) → list_all is_symbol s ≡ true → Each1 (Fits w8) s → vs ≡ map lane_value s → ns ≡
     numbers vs
     → take 48 r ≡ number_bytes ns → take 48 r ≡ groups (map symbol_value s)
 block_is s vs ns r all fits p q o =
     let f = front_values s fits all in
-    o ∙ ap number_bytes (q ∙ ap numbers p) ∙ groups_are (map value_of s) f.1 ∙ ap groups f.0
+    o ∙ ap number_bytes (q ∙ ap numbers p) ∙ groups_are (map lane_value s) f.1 ∙ ap groups f.0

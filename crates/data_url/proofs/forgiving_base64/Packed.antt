@@ -1,5 +1,5 @@
 -- Rows with gaps, and units of symbols with white space between them. For `gaps.rt`,
--- `symbols_ahead` and `fill_spaced`.
+-- `symbols_ahead` and `decode_spaced_rows`.
 use Rattle.std.proofs.Common.{List, ◌++◌, map, ◌≡◌, ℕ, ◌<◌, ◌≤◌, ◌+◌, ◌*◌, ◌-◌, ◌/◌, ◌%◌, ◌^◌, true, false, cond}
 use Rattle.std.proofs.Common.{get_or, ⊎_elim, length-take-le, length, take, drop, ap, sym, ◌∙◌, arith, take-take}
 use Rattle.std.proofs.Common.{take-append-drop, append_assoc, append-nil, take-add, take_at, suc, zero, refl, [], ◌∷◌}
@@ -8,7 +8,8 @@ use Rattle.std.{proofs.lemmas.List.{length-map, map-append}, proofs.lemmas.List.
 use Rattle.std.{proofs.lemmas.List.Filters.{length-filter_more}, proofs.lemmas.List.Folds.{list_all-append}}
 use Rattle.std.{proofs.lemmas.Simd.{mask_l-lt}, specs.Int.Count.{count_trailing_zeros}, specs.List.{filter, list_all}}
 use Rattle.std.{specs.List.{prefix_len}, specs.Simd.Lanes.{mask_l}}
-use Rattle.data_url.specs.{Base64.{groups, is_symbol, symbol_value}, Steps.Groups.{Fills, clear, is_symbol_or_space}}
+use Rattle.data_url.specs.Base64.{groups, is_symbol, symbol_value}
+use Rattle.data_url.specs.Steps.Groups.{AddsGroups, clear, is_symbol_or_space}
 use Rattle.data_url.specs.Steps.Lanes.{DecodesFront}
 use Rattle.data_url.proofs.{forgiving_base64.Groups.{put_keeps, symbols_kept}, forgiving_base64.Spaces.{clear_mask}}
 use Rattle.data_url.proofs.forgiving_base64.Vectors.{groups_whole, is_other, others_mask}
@@ -16,8 +17,8 @@ use Rattle.data_url.proofs.forgiving_base64.Vectors.{groups_whole, is_other, oth
 -- Rows that are packed
 
 -- the mask of a row has sixteen bits
-pub others_small : (v : List ℕ) {mask : ℕ} → length v ≡ 16 → mask ≡ others_mask v → mask < 65536
-others_small v {mask} long is =
+pub non_symbols_small : (v : List ℕ) {mask : ℕ} → length v ≡ 16 → mask ≡ others_mask v → mask < 65536
+non_symbols_small v {mask} long is =
     let size : 2 ^ length (map is_other v) ≡ 65536 = ap (λ n. 2 ^ n) (length-map v is_other ∙ long) in
     omega (arith, is, size, mask_l-lt (map is_other v))
 
@@ -164,13 +165,13 @@ decodes_more symbols old now new y n q room long before put decodes m few all =
     (cases_lt m (4 * q))
 
 -- the groups of a unit are read
-pub unit_fills : (text old new symbols : List ℕ) (n have taken : ℕ)
+pub unit_adds : (text old new symbols : List ℕ) (n have taken : ℕ)
     → ((m : ℕ) → 4 * m ≤ have → list_all is_symbol (take (4 * m) symbols) ≡ true
     → take (n + 3 * m) new ≡ take n old ++ groups (map symbol_value (take (4 * m) symbols)))
     → have % 4 ≡ 0 → have ≤ length symbols → list_all is_symbol_or_space (take taken text) ≡ true
     → filter is_symbol (take taken text) ≡ take have symbols
-    → Fills (take n old) (take taken text) (take (n + have / 4 * 3) new)
-unit_fills text old new symbols n have taken decodes whole long spaced are =
+    → AddsGroups (take n old) (take taken text) (take (n + have / 4 * 3) new)
+unit_adds text old new symbols n have taken decodes whole long spaced are =
     let m = have / 4 in
     let four : 4 * m ≡ have = omega (arith, whole) in
     let three : n + m * 3 ≡ n + 3 * m = omega arith in

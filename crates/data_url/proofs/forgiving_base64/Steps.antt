@@ -13,7 +13,7 @@ use Rattle.data_url.specs.Base64.{is_symbol, is_valid, kind_of, left_padding, le
 use Rattle.data_url.specs.{Base64.{symbol_value, values}, Mime.{Every}, Run.{IsRun, IsPrefix, joined_pieces, refusal}}
 use Rattle.data_url.specs.Decoder.{Feeds, Finishes, State, left_over, IsLeft, IsTaken}
 use Rattle.data_url.specs.{Errors.{IsRefused}, Laws.{GoesOn}, declared.forgiving_base64.DecodeError.{DecodeError}}
-use Rattle.data_url.specs.Steps.Holding.{Adds, CallsOnce, Refuses}
+use Rattle.data_url.specs.Steps.Holding.{CallsOnce, Completes, Refuses}
 use Rattle.data_url.specs.declared.forgiving_base64.left_over.LeftOver as left
 use Rattle.data_url.specs.declared.forgiving_base64.DecodeError.TheVariants.{WriteError, InvalidBase64}
 use Rattle.data_url.specs.declared.forgiving_base64.InvalidBase64Details.TheVariants.{AlphabetSymbolAfterPadding}
@@ -239,28 +239,28 @@ module _ {F : Type 0} where
   ruleset sizes = (groups_size, length-map, length-append, filter_length)
 
   -- d reads a text t without a fault that has the symbols k and n times '=', if the fields of d' are what is left over
-  pub adds_text : {d d' : State F} (t k bytes : List ℕ) (n : ℕ) → IsSound d.symbols d.padding
+  pub completes_text : {d d' : State F} (t k bytes : List ℕ) (n : ℕ) → IsSound d.symbols d.padding
       → fault_byte (has_pad d.padding) t ≡ None → filter is_symbol t ≡ k → length (filter is_pad t) ≡ n
       → bytes ≡ groups (map symbol_value (d.symbols ++ k)) → d'.closure ≡ d.closure
       → d'.symbols ≡ after_groups (d.symbols ++ k) → d'.padding ≡ min (d.padding + n) 3 → d'.failed ≡ false
-      → Adds d t bytes d'
-  adds_text {d} {d'} t k bytes n s good is_k is_n is_bytes same symbols padding failed =
+      → Completes d t bytes d'
+  completes_text {d} {d'} t k bytes n s good is_k is_n is_bytes same symbols padding failed =
       grind (arith, sizes, none_fault, fault_more, done_more, left_more, padding_more)
 
   -- the text completes no group
-  adds_quiet : {d d' : State F} (t k : List ℕ) (n : ℕ) → IsSound d.symbols d.padding
+  completes_quiet : {d d' : State F} (t k : List ℕ) (n : ℕ) → IsSound d.symbols d.padding
       → fault_byte (has_pad d.padding) t ≡ None → filter is_symbol t ≡ k → length (filter is_pad t) ≡ n
       → length (d.symbols ++ k) ≤ 3 → d'.closure ≡ d.closure → d'.symbols ≡ d.symbols ++ k
-      → d'.padding ≡ min (d.padding + n) 3 → d'.failed ≡ false → Adds d t [] d'
-  adds_quiet {d} t k n s good is_k is_n few same symbols padding failed =
-      search (arith, adds_text, groups_few, length-map, after_few)
+      → d'.padding ≡ min (d.padding + n) 3 → d'.failed ≡ false → Completes d t [] d'
+  completes_quiet {d} t k n s good is_k is_n few same symbols padding failed =
+      search (arith, completes_text, groups_few, length-map, after_few)
 
   -- d reads a symbol after at most two symbols and no padding: it keeps the symbol, and no group is complete
-  pub adds_kept : {d d' : State F} (c : ℕ) → IsSound d.symbols d.padding → length d.symbols + 1 ≤ 3 → d.padding ≡ 0
+  pub completes_kept : {d d' : State F} (c : ℕ) → IsSound d.symbols d.padding → length d.symbols + 1 ≤ 3 → d.padding ≡ 0
       → is_symbol c ≡ true → d'.closure ≡ d.closure → d'.symbols ≡ d.symbols ++ c ∷ [] → d'.padding ≡ d.padding
-      → d'.failed ≡ false → Adds d (c ∷ []) [] d'
-  adds_kept {d} c s few none symbol same symbols padding failed =
-      adds_quiet (c ∷ []) (c ∷ []) 0 s
+      → d'.failed ≡ false → Completes d (c ∷ []) [] d'
+  completes_kept {d} c s few none symbol same symbols padding failed =
+      completes_quiet (c ∷ []) (c ∷ []) 0 s
       (ap (λ p. fault_byte (has_pad p) (c ∷ [])) none ∙ fault_symbol c symbol)
       (symbols_symbol c symbol)
       (ap length (pads_symbol c symbol))
@@ -268,35 +268,36 @@ module _ {F : Type 0} where
       same symbols (padding ∙ none ∙ ap (λ p. min (p + 0) 3) (sym none)) failed
 
   -- d reads a byte of whitespace, and does not change
-  pub adds_space : {d : State F} (c : ℕ) → IsSound d.symbols d.padding
-      → is_ascii_whitespace c ≡ true → d.failed ≡ false → Adds d (c ∷ []) [] d
-  adds_space {d} c s space going =
+  pub completes_space : {d : State F} (c : ℕ) → IsSound d.symbols d.padding
+      → is_ascii_whitespace c ≡ true → d.failed ≡ false → Completes d (c ∷ []) [] d
+  completes_space {d} c s space going =
       let same : d.padding ≡ min (d.padding + 0) 3 = omega (arith, s.few_padding) in
-      search (arith, adds_quiet, fault_space, symbols_space, pads_space, append-nil, same)
+      search (arith, completes_quiet, fault_space, symbols_space, pads_space, append-nil, same)
 
   -- d reads the empty text, and does not change
-  pub adds_none : {d : State F} → IsSound d.symbols d.padding → d.failed ≡ false → Adds d [] [] d
+  pub completes_none : {d : State F} → IsSound d.symbols d.padding → d.failed ≡ false → Completes d [] [] d
   unfolding fault_byte
-  adds_none {d} s going =
-      adds_quiet [] [] 0 s refl refl refl (rw append-nil s.few) refl (sym (append-nil d.symbols))
+  completes_none {d} s going =
+      completes_quiet [] [] 0 s refl refl refl (rw append-nil s.few) refl (sym (append-nil d.symbols))
       (omega (arith, s.few_padding)) going
 
   -- d reads a '=': it counts it, up to three
-  pub adds_pad : {d d' : State F} (c : ℕ) → c ≡ 61 → IsSound d.symbols d.padding → d.failed ≡ false
-      → d' ≡ record d { padding = min (d.padding + 1) 3 } → Adds d (c ∷ []) [] d'
-  adds_pad {d} {d'} c e s going same =
-      rw (e, same) (adds_quiet (61 ∷ []) [] 1 s (fault_pads 1 (has_pad d.padding)) refl refl (rw append-nil s.few) refl
+  pub completes_pad : {d d' : State F} (c : ℕ) → c ≡ 61 → IsSound d.symbols d.padding → d.failed ≡ false
+      → d' ≡ record d { padding = min (d.padding + 1) 3 } → Completes d (c ∷ []) [] d'
+  completes_pad {d} {d'} c e s going same =
+      rw (e, same) (completes_quiet (61 ∷ []) [] 1 s (fault_pads 1 (has_pad d.padding)) refl refl
+      (rw append-nil s.few) refl
       (sym (append-nil d.symbols)) refl going)
 
   -- the fourth symbol completes a group
-  pub adds_group : {d d' : State F} (x y z c : ℕ) (group : List ℕ) → IsSound d.symbols d.padding
+  pub completes_group : {d d' : State F} (x y z c : ℕ) (group : List ℕ) → IsSound d.symbols d.padding
       → d.symbols ≡ x ∷ y ∷ z ∷ [] → d.padding ≡ 0 → is_symbol c ≡ true
       → group ≡ group_bytes (group_number (symbol_value x) (symbol_value y) (symbol_value z) (symbol_value c))
-      → d'.closure ≡ d.closure → d'.symbols ≡ [] → d'.padding ≡ 0 → d'.failed ≡ false → Adds d (c ∷ []) group d'
+      → d'.closure ≡ d.closure → d'.symbols ≡ [] → d'.padding ≡ 0 → d'.failed ≡ false → Completes d (c ∷ []) group d'
   unfolding groups after_groups
-  adds_group {d} {d'} x y z c group s is_q is_p symbol is_group same symbols padding failed =
+  completes_group {d} {d'} x y z c group s is_q is_p symbol is_group same symbols padding failed =
       let all : d.symbols ++ c ∷ [] ≡ x ∷ y ∷ z ∷ c ∷ [] = ap (λ k. k ++ c ∷ []) is_q in
-      adds_text (c ∷ []) (c ∷ []) group 0 s
+      completes_text (c ∷ []) (c ∷ []) group 0 s
       (ap (λ p. fault_byte (has_pad p) (c ∷ [])) is_p ∙ fault_symbol c symbol)
       (symbols_symbol c symbol)
       (ap length (pads_symbol c symbol))
@@ -324,7 +325,7 @@ module _ {F E : Type 0} (step : F → List ℕ → Result (Unit {0}) E → F →
   -- feeding the empty text returns `Ok`, and d does not change
   pub feeds_none : {d d' : State F} → IsSound d.symbols d.padding
       → d.failed ≡ false → d' ≡ d → Feeds step d [] (Ok tt) d'
-  feeds_none {d} {d'} s going same = grind (arith, adds_none {d = d} s going)
+  feeds_none {d} {d'} s going same = grind (arith, completes_none {d = d} s going)
 
   -- One call
 

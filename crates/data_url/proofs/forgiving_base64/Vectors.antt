@@ -1,11 +1,11 @@
--- Symbols in vectors, item by item. For `alphabet.rt`, `gaps.rt`, `left_over.rt` and `classes/lanes.rt`.
+-- Symbols in vectors, item by item. For `alphabet.rt`, `gaps.rt`, `rows.rt` and `classes/lanes.rt`.
 use Rattle.std.proofs.Common.{List, [], ◌∷◌, ◌++◌, map, ◌≡◌, ℕ, ◌<◌, ltb, true, cond, eqb, get_or, length, take, Fits}
 use Rattle.std.proofs.Common.{w8, ap, ◌%◌, Bool, not, refl, ◌∙◌, ap₂, arith, suc, zero, ◌&&◌, bit_or}
 use Rattle.std.proofs.lemmas.Bool.{agree_below_at, and_parts, eqb-true, ltb-true, cases_eq, ne_eqb}
 use Rattle.std.{proofs.lemmas.List.{nil_from_length}, proofs.lemmas.Nat.{and_le_r, and_le_l}}
 use Rattle.std.{proofs.lemmas.Simd.{zip2_of_maps}, specs.Char.{is_ascii_whitespace as std_whitespace}}
 use Rattle.std.{specs.Char.{is_ascii_whitespace}, specs.List.{list_all}}
-use Rattle.data_url.specs.{Base64.{is_symbol, symbol_value, groups, after_groups}, Steps.Lanes.{value_of}}
+use Rattle.data_url.specs.{Base64.{is_symbol, symbol_value, groups, after_groups}, Steps.Lanes.{lane_value}}
 use Rattle.data_url.specs.declared.forgiving_base64.alphabet.TheConstants.{VALUES}
 use Rattle.data_url.proofs.forgiving_base64.Padding.{groups-append, length-after_groups}
 use lib.Bits.{or_add_and}
@@ -55,24 +55,24 @@ each_map P Q f g (x ∷ v) h = (g x h.0, each_map P Q f g v h.1)
 
 -- The tables are the alphabet
 
--- `value_of` is the value of a symbol
-pub value_is : (b : ℕ) → b < 256 → is_symbol b ≡ true → value_of b ≡ symbol_value b
+-- `lane_value` is the value of a symbol
+pub value_is : (b : ℕ) → b < 256 → is_symbol b ≡ true → lane_value b ≡ symbol_value b
 value_is b l s =
-    let agrees = λ (b : ℕ). cond (is_symbol b) (eqb (value_of b) (symbol_value b)) true in
+    let agrees = λ (b : ℕ). cond (is_symbol b) (eqb (lane_value b) (symbol_value b)) true in
     let same = agree_below_at agrees (λ b. true) 256 b refl l in
-    grind (arith, eqb-true (value_of b) (symbol_value b))
+    grind (arith, eqb-true (lane_value b) (symbol_value b))
 
 -- the items of symbols are their values, and below 64
 pub front_values : (s : List ℕ) → Each1 (Fits w8) s → list_all is_symbol s ≡ true
-    → (map value_of s ≡ map symbol_value s) × Each1 (λ x. x < 64) (map value_of s)
+    → (map lane_value s ≡ map symbol_value s) × Each1 (λ x. x < 64) (map lane_value s)
 front_values [] fits h = (refl, tt)
 front_values (b ∷ s) fits h =
     let p = and_parts (is_symbol b) (list_all is_symbol s) h in
     let rest = front_values s fits.1 p.1 in
-    let small = λ (b : ℕ). cond (is_symbol b) (ltb (value_of b) 64) true in
+    let small = λ (b : ℕ). cond (is_symbol b) (ltb (lane_value b) 64) true in
     let below = agree_below_at small (λ b. true) 256 b refl fits.0.fits in (
       ap₂ (λ x (y : List ℕ). x ∷ y) (value_is b fits.0.fits p.0) rest.0,
-      (grind (arith, ltb-true (value_of b) 64), rest.1),
+      (grind (arith, ltb-true (lane_value b) 64), rest.1),
     )
 
 -- the first items of a list of bytes are bytes

@@ -16,7 +16,7 @@ use Rattle.data_url.specs.{CodePoints.{is_http_whitespace, is_token}, Url.{witho
 use Rattle.data_url.specs.Mime.{Quoted, QuotedOpen, after_backslash, nothing_quoted, as_itself}
 use Rattle.data_url.specs.Steps.Parsing.{IsTokens, front_of, in_name, in_value, quoted_len, quoted_reading, unescaped}
 use Rattle.data_url.specs.Steps.{Parsing.{Quoting, is_escaped}, Classes.{AreOf, is_marked}}
-use Rattle.data_url.specs.declared.classes.TheConstants.{ESCAPED}
+use Rattle.data_url.specs.declared.classes.TheConstants.{UNESCAPED}
 use Rattle.data_url.proofs.texts.CodePoints.{IsCutInto, IsEnd, IsSteady, cut_end, cut_front, every_ascii, front_passes}
 use Rattle.data_url.proofs.{texts.CodePoints.{cut_into, front_further}, classes.Rows.{Looked, unmarked_passes}}
 use lib.Utf8.{encode, scalars}
@@ -288,16 +288,16 @@ plain c = not (is_escaped c)
 
 -- the bytes that a text begins with, and that are not marked, stand for themselves
 pub plain_front : (text : List ℕ) (n : ℕ) → n ≤ length text → ((i : ℕ) → slice_index text i < 256)
-    → AreOf ESCAPED text n → unescaped false text ≡ take n text ++ unescaped false (drop n text)
+    → AreOf UNESCAPED text n → unescaped false text ≡ take n text ++ unescaped false (drop n text)
 plain_front text zero l f h = refl
 plain_front [] (suc n) l f h = absurd (omega arith)
 plain_front (b ∷ text) (suc n) l f h =
-    let passes = unmarked_passes (is_marked ESCAPED) plain refl b (f 0) (h 0 (omega arith)) in
+    let passes = unmarked_passes (is_marked UNESCAPED) plain refl b (f 0) (h 0 (omega arith)) in
     grind (arith, plain_front text n (omega arith) (λ i. f (suc i)) (λ k m. h (suc k) (omega arith)))
 
 -- the first bytes of a text are copied to a place of a value
 pub record IsCopied (text before value : List ℕ) (len n : ℕ) : Type 0 where
-  pub front : Looked ESCAPED text n
+  pub front : Looked UNESCAPED text n
   pub value_is : take (len + n) value ≡ take len before ++ take n text
 
 -- if a row is put after them, so are the first t bytes of the row

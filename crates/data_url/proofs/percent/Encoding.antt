@@ -305,11 +305,12 @@ pub first_bytes : (s : List ℕ) (n : ℕ) → ((i : ℕ) → get_or s i 0 < 256
 first_bytes s n h i = let byte = h i in grind (arith, cases_lt i n, get_or-take, get_or_past, length-take)
 
 -- bytes at the start of a text that come before the first marked one of a stretch are written as they are
-pub kept_front : (p : ℕ → Bool) (others s x : List ℕ) (m n : ℕ)
-    → ((b : ℕ) → b < 256 → is_marked others b ≡ false → byte_encoding p b ≡ b ∷ []) → ((i : ℕ) → get_or s i 0 < 256)
-    → n ≤ length (take m s) → AreOf others (take m s) n → x ≡ take (length x) s → length x ≤ n
+pub kept_front : (p : ℕ → Bool) (class_table s x : List ℕ) (m n : ℕ)
+    → ((b : ℕ) → b < 256 → is_marked class_table b ≡ false → byte_encoding p b ≡ b ∷ [])
+    → ((i : ℕ) → get_or s i 0 < 256)
+    → n ≤ length (take m s) → AreOf class_table (take m s) n → x ≡ take (length x) s → length x ≤ n
     → x ≡ encoded p x
-kept_front p others s x m n as_is bytes l unmarked front few = kept_whole p x (λ k w.
+kept_front p class_table s x m n as_is bytes l unmarked front few = kept_whole p x (λ k w.
     let read = get_or-take m s k 0 (omega (arith, w, few, l, length-take m s)) in
     let same = ap (λ t. get_or t k 0) front ∙ get_or-take (length x) s k 0 w in
     rw same (as_is (get_or s k 0) (bytes k) (rw read at (unmarked k (omega (arith, w, few))))))
@@ -322,29 +323,30 @@ pub record Plain (b : ℕ) : Type 0 where
   pub no_query : (b == 63) ≡ false
 
 -- the bytes before byte i are written at the front of the buffer
-pub record PutTo (p : ℕ → Bool) (s : List ℕ) (i : ℕ) (room : List ℕ) (at : ℕ) : Type 0 where
+pub record PutTo (p : ℕ → Bool) (s : List ℕ) (i : ℕ) (buffer : List ℕ) (at : ℕ) : Type 0 where
   pub few : at ≤ 3 * i
-  pub long : length room ≡ 512
-  pub wrote : take at room ≡ encoded p (take i s)
+  pub long : length buffer ≡ 512
+  pub wrote : take at buffer ≡ encoded p (take i s)
 
 -- if the entry of byte i is put after them, so are the bytes before byte i + 1
-pub put_more : (p : ℕ → Bool) (s : List ℕ) (i : ℕ) (room : List ℕ) (at : ℕ) (entry new : List ℕ) → PutTo p s i room at
-    → i < length s → at ≤ 512 → IsEntry p (get_or s i 0) entry → length new ≡ length (mid_of at (at + 4 - at) room)
-    → new ≡ entry → PutTo p s (i + 1) (put_mid at (at + 4 - at) room new) (at + slice_index entry 3)
-put_more p s i room at entry new m l within r n e =
+pub put_more : (p : ℕ → Bool) (s : List ℕ) (i : ℕ) (buffer : List ℕ) (at : ℕ) (entry new : List ℕ)
+    → PutTo p s i buffer at
+    → i < length s → at ≤ 512 → IsEntry p (get_or s i 0) entry → length new ≡ length (mid_of at (at + 4 - at) buffer)
+    → new ≡ entry → PutTo p s (i + 1) (put_mid at (at + 4 - at) buffer new) (at + slice_index entry 3)
+put_more p s i buffer at entry new m l within r n e =
     let width = slice_index entry 3 in
-    let room' = put_mid at (at + 4 - at) room new in
+    let buffer' = put_mid at (at + 4 - at) buffer new in
     let short : width ≤ 3 = grind arith in
     let one : encoded p (get_or s i 0 ∷ []) ≡ byte_encoding p (get_or s i 0) =
     grind (arith, written_first, encoded_empty, append-nil) in
-    let len = length-take-le at room (omega (arith, m.long)) in
+    let len = length-take-le at buffer (omega (arith, m.long)) in
     let more = take_more s i 0 l in
     let all = encoded-append p (take i s) (get_or s i 0 ∷ []) in
-    let put = take-put_mid at (at + 4 - at) room new (at + 4) (omega (arith, ap length e, r.four))
+    let put = take-put_mid at (at + 4 - at) buffer new (at + 4) (omega (arith, ap length e, r.four))
     (omega (arith, m.long)) in
-    let front = take-take (at + width) (at + 4) room' (omega arith) in
-    let seam = take-append-add (take at room) entry width in
-    record { few = omega (arith, m.few); long = same_len_mid at (at + 4 - at) room new n ∙ m.long; wrote = cc }
+    let front = take-take (at + width) (at + 4) buffer' (omega arith) in
+    let seam = take-append-add (take at buffer) entry width in
+    record { few = omega (arith, m.few); long = same_len_mid at (at + 4 - at) buffer new n ∙ m.long; wrote = cc }
 
 -- a text whose bytes are all below 128 is ASCII
 pub ascii_all : (s : List ℕ) → list_all (λ c. nat_lt c 128) s ≡ true → IsAscii s

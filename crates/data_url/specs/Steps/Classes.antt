@@ -27,13 +27,13 @@ in_class Name = in_name
 in_class Value = in_value
 
 -- what a byte's entries in the two tables have in common, one for each half of the byte; 0 only for a byte of the class
-abbrev pub looked_up : List ℕ → ℕ → ℕ
-looked_up others b = bit_and (slice_index others (bit_and b 15)) (slice_index COLUMNS (b / 16))
+abbrev pub classified : List ℕ → ℕ → ℕ
+classified class_table b = bit_and (slice_index class_table (bit_and b 15)) (slice_index COLUMNS (b / 16))
 
 -- false only for a byte of the class
 abbrev pub is_marked : List ℕ → ℕ → Bool
-is_marked others b = not (looked_up others b == 0)
+is_marked class_table b = not (classified class_table b == 0)
 
 -- the first n bytes are not marked, so they are of the class
 abbrev pub AreOf : List ℕ → List ℕ → ℕ → Type 0
-AreOf others bytes n = (k : ℕ) → k < n → is_marked others (slice_index bytes k) ≡ false
+AreOf class_table bytes n = (k : ℕ) → k < n → is_marked class_table (slice_index bytes k) ≡ false

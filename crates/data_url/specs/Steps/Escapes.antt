@@ -44,8 +44,8 @@ packed_values bytes used =
 
 -- of the first `size` bytes of a block, those before the first stop are packed into a buffer after `len` bytes; it has
 -- `end` bytes then
-pub record IsPacked (bytes : List ℕ) (size : ℕ) (room room' : List ℕ) (len used end : ℕ) : Type 0 where
+pub record IsPacked (bytes : List ℕ) (size : ℕ) (buffer buffer' : List ℕ) (len used end : ℕ) : Type 0 where
   pub some : 12 ≤ used
   pub used_is : used ≡ min size (prefix_len not (stops bytes))
   pub short : end ≤ len + 64
-  pub room_is : take end room' ≡ take len room ++ packed_values bytes used
+  pub buffer_is : take end buffer' ≡ take len buffer ++ packed_values bytes used

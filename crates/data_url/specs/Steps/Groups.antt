@@ -15,7 +15,7 @@ clear [] bits = []
 clear (x ∷ xs) bits = if bits % 2 == 0 then x ∷ clear xs (bits / 2) else clear xs (bits / 2)
 
 -- the text has only the symbols of complete groups, and white space
-pub record IsWhole (text : List ℕ) : Type 0 where
+pub record IsWholeGroups (text : List ℕ) : Type 0 where
   pub spaced : IsTrue (list_all is_symbol_or_space text)
   pub whole : length (filter is_symbol text) % 4 ≡ 0
 
@@ -28,8 +28,8 @@ pub record IsOverGap (text symbols : List ℕ) (spaces : ℕ) : Type 0 where
 
 -- the text has only complete groups and white space, and held' is held followed by the bytes of these
 -- groups
-pub record Fills (held text held' : List ℕ) : Type 0 where
-  pub whole : IsWhole text
+pub record AddsGroups (held text held' : List ℕ) : Type 0 where
+  pub whole : IsWholeGroups text
   pub held_are : held' ≡ held ++ groups (map symbol_value (filter is_symbol text))
 
 -- the bytes of the groups that are held

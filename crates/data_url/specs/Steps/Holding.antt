@@ -8,7 +8,7 @@ use Rattle.data_url.specs.Run.{Call, IsRun, joined_pieces, refusal}
 use Rattle.data_url.specs.declared.forgiving_base64.DecodeError.TheVariants.{WriteError}
 use Rattle.data_url.specs.declared.forgiving_base64.DecodeError.{DecodeError}
 use Rattle.data_url.specs.declared.forgiving_base64.left_over.LeftOver as left
-use Rattle.data_url.specs.Steps.Window.{is_plain}
+use Rattle.data_url.specs.Steps.Window.{is_no_hash_or_percent}
 
 -- what a text leaves over, as the state of a decoder that has no closure and has not failed
 abbrev pub left_state : left.LeftOver → State (Unit {0})
@@ -17,7 +17,7 @@ left_state s =
 
 -- d reads the text without a call of the closure; the bytes are those of the groups that are then
 -- complete, and d' holds what is left over
-pub record Adds {F : Type 0} (d : State F) (text bytes : List ℕ) (d' : State F) : Type 0 where
+pub record Completes {F : Type 0} (d : State F) (text bytes : List ℕ) (d' : State F) : Type 0 where
   pub no_fault : first_fault (left_over d ++ text) ≡ None
   pub bytes_are : bytes ≡ complete_bytes (left_over d ++ text)
   pub left : IsLeft (left_over d ++ text) d'
@@ -40,7 +40,7 @@ pub record Gains {F : Type 0} (d : State F) (held text : List ℕ) (taken : ℕ)
   pub some : 1 ≤ taken
   pub within : taken ≤ length text
   pub more : List ℕ
-  pub adds : Adds d (take taken text) more d'
+  pub completes : Completes d (take taken text) more d'
   pub held_are : held' ≡ held ++ more
 
 -- d calls its closure once, with the piece. If the closure returns an error, d has failed. Nothing
@@ -57,7 +57,7 @@ pub record CallsOnce {F E : Type 0} (step : F → List ℕ → Result (Unit {0})
 
 -- d reads the text. Its closure is called with some of the bytes of the groups that are then complete,
 -- and returns no error; the others are held. d' holds what is left over.
-pub record Reads {F E : Type 0} (step : F → List ℕ → Result (Unit {0}) E → F → Type 0)
+pub record ReadsHolding {F E : Type 0} (step : F → List ℕ → Result (Unit {0}) E → F → Type 0)
     (d : State F) (text held : List ℕ) (d' : State F) : Type 0 where
   pub run : List (Call F E)
   pub ran : IsRun step d.closure run d'.closure
@@ -72,7 +72,7 @@ pub record Reads {F E : Type 0} (step : F → List ℕ → Result (Unit {0}) E �
 pub record ReadsTo {F E : Type 0} (step : F → List ℕ → Result (Unit {0}) E → F → Type 0) (d : State F)
     (text : List ℕ) (at : ℕ) (fault : Option Kind) (d' : State F) : Type 0 where
   pub within : at ≤ length text
-  pub reads : Reads step d (take at text) [] d'
+  pub reads : ReadsHolding step d (take at text) [] d'
   pub ends : MatchOption fault (at ≡ length text)
       (λ kind. (at < length text) × Refuses d' (slice_index text at) kind d')
 
@@ -85,16 +85,16 @@ pub record EndsWithin {F E : Type 0} (step : F → List ℕ → Result (Unit {0}
   pub feeds : Feeds step d (take at text) (Err x) d'
 
 -- d reads the text up to its first fault, or the closure returns an error before that
-abbrev pub ReadsText : {F E : Type 0} → (F → List ℕ → Result (Unit {0}) E → F → Type 0) → State F → List ℕ
+abbrev pub ReadsUntilFault : {F E : Type 0} → (F → List ℕ → Result (Unit {0}) E → F → Type 0) → State F → List ℕ
     → Result (ℕ × Option Kind) (DecodeError E) → State F → Type 0
-ReadsText step d text r d' =
+ReadsUntilFault step d text r d' =
     MatchResult r (λ read. ReadsTo step d text read.0 read.1 d') (λ x. EndsWithin step d text x d')
 
 -- feeding d the bytes of a tail before a place, none of which is '#' or '%', returns r
 pub record FeedsFront {F E : Type 0} (step : F → List ℕ → Result (Unit {0}) E → F → Type 0) (d : State F)
     (tail : List ℕ) (place : ℕ) (r : Result (Unit {0}) (DecodeError E)) (d' : State F) : Type 0 where
   pub within : place ≤ length tail
-  pub plain : list_all is_plain (take place tail) ≡ true
+  pub unescaped : list_all is_no_hash_or_percent (take place tail) ≡ true
   pub feeds : Feeds step d (take place tail) r d'
 
 -- feeding d a tail up to its first '#' or '%' returns the place of that byte, or the length of the tail, or an error
@@ -102,15 +102,15 @@ abbrev pub FeedsUnescaped : {F E : Type 0} → (F → List ℕ → Result (Unit 
     → State F → List ℕ → Result ℕ (DecodeError E) → State F → Type 0
 FeedsUnescaped step d tail r d' = MatchResult r
     (λ place. FeedsFront step d tail place (Ok tt) d'
-    × (place < length tail → is_plain (slice_index tail place) ≡ false))
+    × (place < length tail → is_no_hash_or_percent (slice_index tail place) ≡ false))
     (λ x. (place : ℕ) × FeedsFront step d tail place (Err x) d')
 
 -- d passes these bytes, which are held, to its closure, whatever text was read before. After `Ok` the
 -- bytes that are held after them, b, are still held; an error ends the feeding.
 abbrev pub Flushes : {F E : Type 0} → (F → List ℕ → Result (Unit {0}) E → F → Type 0) → State F
     → List ℕ → Result (Unit {0}) (DecodeError E) → State F → Type 0
-Flushes step d bytes r d' = (d0 : _) (text b : List ℕ) → Reads step d0 text (bytes ++ b) d
-    → MatchResult r (λ u. Reads step d0 text b d') (λ e. Feeds step d0 text (Err e) d')
+Flushes step d bytes r d' = (d0 : _) (text b : List ℕ) → ReadsHolding step d0 text (bytes ++ b) d
+    → MatchResult r (λ u. ReadsHolding step d0 text b d') (λ e. Feeds step d0 text (Err e) d')
 
 -- the next symbol begins a group
 abbrev pub IsBetweenGroups : {F : Type 0} → State F → Type 0

@@ -9,8 +9,8 @@ abbrev pub offset_row : ℕ → ℕ
 offset_row b = (b / 16 + (if b == 47 then 255 else 0)) % 256
 
 -- the value of a symbol; for any other byte, some byte
-abbrev pub value_of : ℕ → ℕ
-value_of b = (b + slice_index OFFSETS (offset_row b)) % 256
+abbrev pub lane_value : ℕ → ℕ
+lane_value b = (b + slice_index OFFSETS (offset_row b)) % 256
 
 -- the 24-bit number of each complete group of four values
 abbrev pub numbers : List ℕ → List ℕ

@@ -58,7 +58,7 @@ pub record IsMarkUpTo (text : List ℕ) (from end to : ℕ) : Type 0 where
   pub marked : to ≤ end → to < length text → is_marked (slice_index text to) ≡ true
 
 -- the body ends at the index
-pub record EndsAt (text : List ℕ) (place : ℕ) : Type 0 where
+pub record BodyEndsAt (text : List ℕ) (place : ℕ) : Type 0 where
   pub within : place ≤ length text
   pub begins : BeginsFragment (drop place text)
 
@@ -77,25 +77,25 @@ IsAtMark text mark looks looks' at_mark.Passed = (is_slice_end (drop mark text) 
     × Spells text mark (mark + 1) [] [] × Pays text mark (mark + 1) looks looks' 0
 IsAtMark text mark looks looks' (at_mark.Escape value end) = (is_slice_end (drop mark text) ≡ true)
     × EscapeAt text mark value end × Pays text mark end looks looks' 3
-IsAtMark text mark looks looks' at_mark.End = (is_slice_end (drop mark text) ≡ true) × EndsAt text mark
+IsAtMark text mark looks looks' at_mark.End = (is_slice_end (drop mark text) ≡ true) × BodyEndsAt text mark
     × (looks' + mark ≤ looks + length text)
 
 -- Walks
 
 -- the block of the text between two indices: at most 64 bytes, with a bit for each marked one
-pub record IsBlock (text : List ℕ) (base seen marks : ℕ) : Type 0 where
-  pub base_le : base ≤ seen
-  pub seen_le : seen ≤ length text
-  pub short : seen ≤ base + 64
-  pub marks_are : marks ≡ mask_l (map is_marked (slice_range text base seen))
+pub record IsBlock (text : List ℕ) (base end marks : ℕ) : Type 0 where
+  pub base_le : base ≤ end
+  pub end_le : end ≤ length text
+  pub short : end ≤ base + 64
+  pub marks_are : marks ≡ mask_l (map is_marked (slice_range text base end))
 
 -- the walk can go on at the index: its block does not begin after it, and the number of bytes read is within the
 -- bound, and stays so if `more` bytes are added
 pub record Looking (s : Source) (b : Block) (place more : ℕ) : Type 0 where
-  pub block : IsBlock s.text.now b.base b.seen b.marks
+  pub block : IsBlock s.text.now b.base b.end b.marks
   pub base_le : b.base ≤ place
   pub within : place ≤ length s.text.now
-  pub looks_are_paid : s.looks + more ≤ b.seen + paid s.text.now place
+  pub looks_are_paid : s.looks + more ≤ b.end + paid s.text.now place
 
 -- the text does not change, and the number of bytes read does not become smaller
 pub record LooksOn (s s' : Source) : Type 0 where
@@ -104,7 +104,7 @@ pub record LooksOn (s s' : Source) : Type 0 where
 
 -- the walk ends at the index
 pub record Ended (c : Cursor) : Type 0 where
-  pub ends : EndsAt (text_of c) c.place
+  pub ends : BodyEndsAt (text_of c) c.place
   pub few_looks : c.source.looks ≤ 3 * length (text_of c)
 
 -- what is true of a walk, by what it knows about its index
@@ -120,11 +120,11 @@ pub record Knows (c : Cursor) : Type 0 where
   pub ahead_is : KnowsAhead c c.ahead
 
 -- nothing is known about the index, or the body ends there
-abbrev pub IsPlain : Ahead → Type 0
-IsPlain Unknown = Unit {0}
-IsPlain AfterEscape = ⊥
-IsPlain (Escape value end) = ⊥
-IsPlain End = Unit {0}
+abbrev pub IsUnknownOrEnd : Ahead → Type 0
+IsUnknownOrEnd Unknown = Unit {0}
+IsUnknownOrEnd AfterEscape = ⊥
+IsUnknownOrEnd (Escape value end) = ⊥
+IsUnknownOrEnd End = Unit {0}
 
 -- the piece is the part of the body between two indices of its text
 pub record IsPart (text : List ℕ) (from to : ℕ) (piece : Piece) : Type 0 where
@@ -133,12 +133,12 @@ pub record IsPart (text : List ℕ) (from to : ℕ) (piece : Piece) : Type 0 whe
 
 -- while bytes are gathered, no more is known about the index
 pub record Gathering (c : Cursor) : Type 0 where
-  pub plain : IsPlain c.ahead
+  pub unknown_or_end : IsUnknownOrEnd c.ahead
   pub knows : KnowsAhead c c.ahead
 
 -- a walk returns its next piece, or ends. A piece has at most `most` bytes; if it has as many, it
 -- may have been cut there.
-pub record GoesOn (c : Cursor) (next : Option Piece) (c' : Cursor) (most : ℕ) : Type 0 where
+pub record GivesPiece (c : Cursor) (next : Option Piece) (c' : Cursor) (most : ℕ) : Type 0 where
   pub on : LooksOn c.source c'.source
   pub reads : Reads (text_of c) c.place c'.place (bytes_of_next next)
   pub few : length (bytes_of_next next) ≤ most
@@ -146,17 +146,17 @@ pub record GoesOn (c : Cursor) (next : Option Piece) (c' : Cursor) (most : ℕ) 
   pub ended : IfNone next (has_ended c'.ahead ≡ true)
 
 -- bytes are appended to a buffer
-pub record Gathers (c c' : Cursor) (room room' : List ℕ) (len len' : ℕ) : Type 0 where
+pub record Gathers (c c' : Cursor) (buffer buffer' : List ℕ) (len len' : ℕ) : Type 0 where
   pub bytes : List ℕ
   pub on : LooksOn c.source c'.source
   pub reads : Reads (text_of c) c.place c'.place bytes
-  pub room_is : take len' room' ≡ take len room ++ bytes
+  pub buffer_is : take len' buffer' ≡ take len buffer ++ bytes
   pub len_is : len' ≡ len + length bytes
 
 -- the buffer has room for the rest of the block, and for another block
 pub record HasRoom (c : Cursor) (len : ℕ) : Type 0 where
   pub some : len ≤ 512
-  pub for_block : c.place < c.block.seen → len + (c.block.seen - c.place) + 64 ≤ 512
+  pub for_block : c.place < c.block.end → len + (c.block.end - c.place) + 64 ≤ 512
 
 -- the walk can copy the rest of its block into the buffer
 pub record MayGather (c : Cursor) (len : ℕ) : Type 0 where
@@ -164,25 +164,25 @@ pub record MayGather (c : Cursor) (len : ℕ) : Type 0 where
   pub unknown : c.ahead ≡ Unknown
   pub room : HasRoom c len
 
--- if a block is wide, 64 more bytes of the text come after it, so that whole blocks can be copied
-abbrev pub IsWide : Cursor → Bool → Type 0
-IsWide c wide = wide ≡ true → c.block.seen + 64 ≤ length (text_of c)
+-- if whole blocks are copied, 64 more bytes of the text come after the block that was read last
+abbrev pub MayCopyBlocks : Cursor → Bool → Type 0
+MayCopyBlocks c whole_blocks = whole_blocks ≡ true → c.block.end + 64 ≤ length (text_of c)
 
 -- the block that was read last begins at the walk's place, has these 64 bytes, and their marks
-pub record IsWhole (c : Cursor) (bytes : List ℕ) : Type 0 where
-  pub seen_is : c.block.seen ≡ c.place + 64
+pub record IsWholeBlock (c : Cursor) (bytes : List ℕ) : Type 0 where
+  pub end_is : c.block.end ≡ c.place + 64
   pub bytes_are : bytes ≡ take 64 (drop c.place (text_of c))
   pub marks_are : c.block.marks ≡ mask_l (map is_marked bytes)
 
 -- a walk gathers bytes, and can gather more
-pub record Gathered (c c' : Cursor) (room room' : List ℕ) (len len' : ℕ) : Type 0 where
-  pub gathers : Gathers c c' room room' len len'
+pub record Gathered (c c' : Cursor) (buffer buffer' : List ℕ) (len len' : ℕ) : Type 0 where
+  pub gathers : Gathers c c' buffer buffer' len len'
   pub few : len' ≤ 512
   pub gathering : Gathering c'
 
 -- a walk packs bytes of a block, and goes on after them
-pub record Packs (c c' : Cursor) (room room' : List ℕ) (len len' : ℕ) : Type 0 where
-  pub gathers : Gathers c c' room room' len len'
+pub record Packs (c c' : Cursor) (buffer buffer' : List ℕ) (len len' : ℕ) : Type 0 where
+  pub gathers : Gathers c c' buffer buffer' len len'
   pub few : len' ≤ 512
   pub moves : c.place < c'.place
 
@@ -195,4 +195,4 @@ abbrev pub IsGathered : Cursor → Cursor → ℕ → Bool → Type 0
 IsGathered c c' len ended =
     MatchBool ended
     ((len ≤ 512) × (c'.ahead ≡ End) × Ended c')
-    ((c'.block.seen ≡ c.block.seen) × (c.place < c'.place) × MayGather c' len)
+    ((c'.block.end ≡ c.block.end) × (c.place < c'.place) × MayGather c' len)

@@ -7,5 +7,5 @@ abbrev pub is_marked : ℕ → Bool
 is_marked b = is_tab_or_newline b || ((b == number_sign) || (b == percent_sign))
 
 -- neither '#' nor '%'
-abbrev pub is_plain : ℕ → Bool
-is_plain b = not ((b == number_sign) || (b == percent_sign))
+abbrev pub is_no_hash_or_percent : ℕ → Bool
+is_no_hash_or_percent b = not ((b == number_sign) || (b == percent_sign))

@@ -1,8 +1,10 @@
-//! Rows of sixteen bytes: how they are read and written, and the classes of their bytes. Blocks of 64 bytes are tested alike.
+//! Rows of sixteen bytes: reads and writes them, and tests whether their bytes are in a class. Blocks of 64 bytes are
+//! tested in the same way.
 
-ghost use Rattle.std.specs.Prelude.{◌≡◌, ◌+◌, ◌++◌, ◌<◌, ◌≤◌, drop, length, map, not, replicate, take};
+ghost use Rattle.std.specs.Prelude.{◌≡◌, ◌+◌, ◌++◌, ◌<◌, ◌≤◌};
+ghost use Rattle.std.specs.Prelude.{drop, length, map, not, replicate, take};
 ghost use Rattle.std.specs.{List.{list_all}, Simd.Lanes.{mask_l}};
-ghost use Rattle.data_url.specs.Steps.Classes.{AreOf, is_marked, looked_up};
+ghost use Rattle.data_url.specs.Steps.Classes.{AreOf, classified, is_marked};
 
 use std::simd::prelude::*;
 
@@ -12,12 +14,13 @@ pub(crate) const ROW: usize = 16;
 /// How many bytes a block has.
 pub(crate) const BLOCK: usize = 64;
 
-/// Has, for each high half of a byte, the bit of its column. Bytes from 0x10 to 0x1F and from 0x80 on share one bit.
+/// For each high half of a byte, the bit of its column. The high halves 1 and 8 to 15 share a column, so that a table
+/// of a class needs only eight bits for each low half.
 const COLUMNS: [u8; 16] = [
     1, 128, 2, 4, 8, 16, 32, 64, 128, 128, 128, 128, 128, 128, 128, 128,
 ];
 
-/// The row of a text that begins at a place.
+/// Returns the row of a text that begins at a place.
 #[inline(always)]
 pub(crate) fn row(text: &[u8], at: usize) -> u8x16
     requires { at + 16 ≤ length text.now }
@@ -35,7 +38,7 @@ pub(crate) fn put(bytes: &mut [u8], at: usize, row: u8x16)
     row.copy_to_slice(&mut bytes[at..]);
 }
 
-/// The places in a row.
+/// The places in a row, in order.
 const PLACES: [u8; 16] = [0, 1, 2, 3, 4, 5, 6, 7, 8, 9, 10, 11, 12, 13, 14, 15];
 
 /// Returns the first `at` bytes of a row, and then those of another one from there on.
@@ -55,7 +58,8 @@ const QUARTER_FOUR_TIMES: [usize; 16] = [0, 1, 2, 3, 0, 1, 2, 3, 0, 1, 2, 3, 0, 
 /// The places in half a row, twice.
 const HALF_TWICE: [usize; 16] = [0, 1, 2, 3, 4, 5, 6, 7, 0, 1, 2, 3, 4, 5, 6, 7];
 
-/// Returns a row that has the first eight bytes of a text, or the first four if it has fewer than eight, and then zeros.
+/// Returns a row that has the first eight bytes of a text, or the first four if it has fewer than eight, and then
+/// zeros.
 #[inline(always)]
 pub(crate) fn short_row(text: &[u8]) -> u8x16
     requires { 4 ≤ length text.now }
@@ -77,7 +81,8 @@ const FOUR_TIMES: [usize; 64] = [
     10, 11, 12, 13, 14, 15,
 ];
 
-/// Returns a block that has a row four times. What is computed from each of these rows is the same, so the compiler computes it once.
+/// Returns a block that has a row four times. What is computed from these rows is the same, so the compiler computes it
+/// once.
 #[inline(always)]
 pub(crate) fn repeated(row: u8x16) -> u8x64
     ensures { result ≡ row ++ row ++ row ++ row }
@@ -85,52 +90,54 @@ pub(crate) fn repeated(row: u8x16) -> u8x64
     row.swizzle(FOUR_TIMES)
 }
 
-/// Looks up both halves of each byte of a block. Returns the bits that their entries have in common: none only where the byte is
-/// in the class.
+/// Looks up both halves of each byte of a block, and returns the bits that the two entries have in common: the entry of
+/// `class_table` for the low half, and that of `COLUMNS` for the high half. If there are none, the byte is in the
+/// class. Otherwise it may be outside the class.
 #[inline(always)]
-fn looked_up(others: &[u8], block: u8x64) -> u8x64
-    requires { 16 ≤ length others.now }
-    ensures { result ≡ map (looked_up others.now) block }
+fn classified(class_table: &[u8], block: u8x64) -> u8x64
+    requires { 16 ≤ length class_table.now }
+    ensures { result ≡ map (classified class_table.now) block }
 {
-    let low = repeated(row(others, 0)).swizzle_dyn_within::<16>(block & u8x64::splat(15));
+    let low = repeated(row(class_table, 0)).swizzle_dyn_within::<16>(block & u8x64::splat(15));
     let high = repeated(row(&COLUMNS, 0)).swizzle_dyn_within::<16>(block >> u8x64::splat(4));
     low & high
 }
 
-/// Returns a bit for each byte of a row, which is set where the byte may be outside a class.
+/// Returns a bit for each byte of a row, which is set if the byte may be outside the class of a table.
 #[inline(always)]
-pub(crate) fn marks(others: &[u8], row: u8x16) -> u64
-    requires { 16 ≤ length others.now }
-    ensures { result ≡ mask_l (map (is_marked others.now) row) }
+pub(crate) fn outside(class_table: &[u8], row: u8x16) -> u64
+    requires { 16 ≤ length class_table.now }
+    ensures { result ≡ mask_l (map (is_marked class_table.now) row) }
 {
-    let found = looked_up(others, repeated(row)).extract::<0, 16>();
+    let found = classified(class_table, repeated(row)).extract::<0, 16>();
     found.simd_ne(u8x16::splat(0)).to_bitmask()
 }
 
-/// Whether no byte of a block is marked. As a test for a branch, this takes fewer instructions than `marks`.
+/// Returns whether no byte of a block may be outside the class of a table. As a test for a branch, this takes fewer
+/// instructions than `outside`.
 #[inline(always)]
-pub(crate) fn is_unmarked(others: &[u8], block: u8x64) -> bool
-    requires { 16 ≤ length others.now }
-    ensures { result ≡ list_all (λ b. not (is_marked others.now b)) block }
+pub(crate) fn is_unmarked(class_table: &[u8], block: u8x64) -> bool
+    requires { 16 ≤ length class_table.now }
+    ensures { result ≡ list_all (λ b. not (is_marked class_table.now b)) block }
 {
-    looked_up(others, block).reduce_or() == 0
+    classified(class_table, block).reduce_or() == 0
 }
 
-/// Returns how many bytes come before the first marked byte of the whole rows, or the length of these rows if there is none.
-/// All these bytes are in the class.
+/// Returns how many bytes come before the first one that may be outside the class of a table. All these bytes are in
+/// the class. Only whole rows are tested: if none of their bytes may be outside, returns the length of these rows.
 #[inline(always)]
-pub(crate) fn rows_len(others: [u8; 16], bytes: &[u8]) -> usize
+pub(crate) fn rows_len(class_table: [u8; 16], bytes: &[u8]) -> usize
     ensures within { result ≤ length bytes.now }
-    ensures prefix { AreOf others bytes.now result }
+    ensures prefix { AreOf class_table bytes.now result }
 {
     let end = bytes.len().saturating_sub(ROW - 1);
     let mut at = 0;
     while at < end {
         let row = row(bytes, at);
-        // Before the test, so that the compiler ends the loop with the test, which is faster.
+        // This comes before the test, so that the compiler puts the test at the end of the loop, which is faster.
         at += ROW;
-        if !is_unmarked(&others, repeated(row)) {
-            return at - ROW + marks(&others, row).trailing_zeros() as usize;
+        if !is_unmarked(&class_table, repeated(row)) {
+            return at - ROW + outside(&class_table, row).trailing_zeros() as usize;
         }
     }
     at

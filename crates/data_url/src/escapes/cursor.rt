@@ -3,8 +3,10 @@
 #![tactic(auto, using(crate::proofs::escapes::Walking::walks))]
 
 ghost use Rattle.std.specs.Prelude.{◌≡◌, ◌≤◌, drop, length};
-ghost use Rattle.data_url.specs.{Url.{after, number_sign}, Pieces.{text_of, walk_at_start, walk_of}};
-ghost use Rattle.data_url.specs.Steps.{Chunks.{IsBodyFrom, IsBodyPrefix}, Walk.{GoesOn, Knows, KnowsAhead, Looking}};
+ghost use Rattle.data_url.specs.Url.{after, number_sign};
+ghost use Rattle.data_url.specs.Pieces.{text_of, walk_at_start, walk_of};
+ghost use Rattle.data_url.specs.Steps.Chunks.{IsBodyFrom, IsBodyPrefix};
+ghost use Rattle.data_url.specs.Steps.Walk.{GivesPiece, Knows, KnowsAhead, Looking};
 
 use super::Piece;
 use super::marks::{AtMark, Block};
@@ -36,7 +38,7 @@ pub(super) struct Cursor<'a> {
 }
 
 impl<'a> Cursor<'a> {
-    /// A walk that begins at the start of a text.
+    /// Returns a walk that begins at the start of a text.
     pub(super) fn new(text: &'a [u8]) -> Self
         ensures walk { walk_of result ≡ walk_at_start text.entry.now }
         ensures unread { result.source.looks ≡ 0 }
@@ -44,17 +46,13 @@ impl<'a> Cursor<'a> {
     {
         Cursor {
             source: Source::new(text),
-            block: Block {
-                base: 0,
-                seen: 0,
-                marks: 0,
-            },
+            block: Block::between(0, 0, 0),
             place: 0,
             ahead: Ahead::Unknown,
         }
     }
 
-    /// A walk that begins at a place of a text. The body ends there if the text does, or if a `#` is there.
+    /// Returns a walk that begins at a place of a text. The body ends there if the text does, or if a `#` is there.
     #[inline(always)]
     pub(super) fn from_place(text: &'a [u8], place: usize) -> Self
         requires within { place ≤ length text.now }
@@ -64,11 +62,7 @@ impl<'a> Cursor<'a> {
     {
         Cursor {
             source: Source::new(text),
-            block: Block {
-                base: place,
-                seen: place,
-                marks: 0,
-            },
+            block: Block::between(place, place, 0),
             place,
             ahead: if place == text.len() || text[place] == b'#' {
                 Ahead::End
@@ -78,9 +72,9 @@ impl<'a> Cursor<'a> {
         }
     }
 
-    /// The bytes before the first marked byte, at most `most` of them. The walk goes to the place after them. If the first byte
-    /// is a `%`, it is read by itself, so that the bytes after its escape can be packed: it is a block. The look at another
-    /// first byte does not count against the bound.
+    /// Returns the bytes before the first marked byte, at most `most` of them, and goes to the place after them. If the
+    /// first byte is a `%`, that byte alone is the first block, so that the bytes after its escape can be packed. Any
+    /// other first byte may be read once more, with the block that it is in: the bound on looks has room for that.
     #[inline(always)]
     pub(super) fn next_prefix(&mut self, most: usize) -> &'a [u8]
         requires start { self.old.place ≡ 0 }
@@ -90,11 +84,7 @@ impl<'a> Cursor<'a> {
         ensures knows { Knows self.new }
     {
         let is_percent = self.source.len() > 0 && self.source.look(0) == b'%';
-        self.block = Block {
-            base: 0,
-            seen: usize::from(is_percent),
-            marks: u64::from(is_percent),
-        };
+        self.block = Block::between(0, usize::from(is_percent), u64::from(is_percent));
         let len = self.source.len();
         let end = len.min(most);
         let place = self.block.next_mark(&mut self.source, 0, end).min(end);
@@ -107,12 +97,12 @@ impl<'a> Cursor<'a> {
         self.source.cut(0, place)
     }
 
-    /// The next piece, of at most a number of bytes: a slice is cut after that many.
+    /// Returns the next piece, or None if the body has ended. A slice is cut after `most` bytes.
     #[inline(always)]
     pub(super) fn next(&mut self, most: usize) -> Option<Piece<'a>>
         requires knows { Knows self.old }
         requires some { 1 ≤ most }
-        ensures goes { GoesOn self.old result self.new most }
+        ensures goes { GivesPiece self.old result self.new most }
         ensures knows { Knows self.new }
     {
         match self.ahead {
@@ -133,12 +123,12 @@ impl<'a> Cursor<'a> {
         self.next_stretch(most)
     }
 
-    /// The next piece, of which nothing is known, of at most a number of bytes.
+    /// Returns the next piece, as `next` does, from a place at which nothing is known.
     #[inline(always)]
     fn next_stretch(&mut self, most: usize) -> Option<Piece<'a>>
         requires looking { Looking self.old.source self.old.block self.old.place 0 }
         requires some { 1 ≤ most }
-        ensures goes { GoesOn self.old result self.new most }
+        ensures goes { GivesPiece self.old result self.new most }
         ensures knows { KnowsAhead self.new self.new.ahead }
     {
         let mut from = self.place;

@@ -2,16 +2,20 @@
 
 #![tactic(auto, using(crate::proofs::escapes::EscapeDigits::digits))]
 
-ghost use Rattle.std.specs.Prelude.{IsTrue, ◌≡◌, ◌+◌, ◌<◌, ◌≤◌, MatchOption, drop, false, length, slice_index};
-ghost use Rattle.data_url.specs.{Percent.{begins_with_escape}, Steps.Digits.{EscapeAt, IsCode, IsDigitFrom, NoEscape}, Url.{percent_sign}};
+ghost use Rattle.std.specs.Prelude.{◌≡◌, ◌+◌, ◌<◌, ◌≤◌};
+ghost use Rattle.std.specs.Prelude.{IsTrue, MatchOption, drop, false, length, slice_index};
+ghost use Rattle.data_url.specs.Percent.{begins_with_escape};
+ghost use Rattle.data_url.specs.Steps.Digits.{EscapeAt, IsCode, IsDigitFrom, NoEscape};
+ghost use Rattle.data_url.specs.Url.{percent_sign};
 
 use super::source::Source;
 use std::mem::replace;
 
-/// What the table has for a tab or a newline.
+/// What the table `DIGITS` has for a tab or a newline.
 const PASSED: u8 = 16;
 
-/// Has, for each byte, the value of a hexadecimal digit, `PASSED`, or a greater number for any other byte.
+/// For each byte, its value if it is a hexadecimal digit, `PASSED` if it is a tab or a newline, and a greater number
+/// otherwise.
 const DIGITS: [u8; 256] = [
     32, 32, 32, 32, 32, 32, 32, 32, 32, 16, 16, 32, 32, 16, 32, 32, 32, 32, 32, 32, 32, 32, 32, 32,
     32, 32, 32, 32, 32, 32, 32, 32, 32, 32, 32, 32, 32, 32, 32, 32, 32, 32, 32, 32, 32, 32, 32, 32,
@@ -26,7 +30,7 @@ const DIGITS: [u8; 256] = [
     32, 32, 32, 32, 32, 32, 32, 32, 32, 32, 32, 32, 32, 32,
 ];
 
-/// What the table has for a byte.
+/// Returns what the table `DIGITS` has for a byte.
 #[inline(always)]
 fn digit_code(byte: u8) -> u8
     ensures { IsCode byte result }
@@ -35,12 +39,13 @@ fn digit_code(byte: u8) -> u8
 }
 
 impl<'a> Source<'a> {
-    /// Returns the byte of the escape whose `%` is at a place, past tabs and newlines, and the place after it. If the `%` is
-    /// `followed` by two bytes or more, it is faster: whether the text ends is not tested before a digit that comes at once.
+    /// Returns the value of the escape whose `%` is at a place, and the place after the escape. Tabs and newlines in it
+    /// are skipped. `two_follow` says that at least two bytes follow the `%`. Then the end of the text is not tested
+    /// for before a digit that comes at once, which is faster.
     #[inline(always)]
-    pub(super) fn escape(&mut self, place: usize, followed: bool) -> Option<(u8, usize)>
+    pub(super) fn escape(&mut self, place: usize, two_follow: bool) -> Option<(u8, usize)>
         requires within { place < length self.old.text.now }
-        requires room { IsTrue followed → place + 3 ≤ length self.old.text.now }
+        requires room { IsTrue two_follow → place + 3 ≤ length self.old.text.now }
         requires percent { slice_index self.old.text.now place ≡ percent_sign }
         ensures text { self.new.text.now ≡ self.old.text.now }
         ensures looks { self.old.looks ≤ self.new.looks }
@@ -49,12 +54,12 @@ impl<'a> Source<'a> {
             (λ found. EscapeAt self.old.text.now place found.0 found.1
             × (self.new.looks + place + 1 ≡ self.old.looks + found.1)) }
     {
-        let (high, after) = self.digit(place + 1, followed)?;
-        let (low, end) = self.digit(after, followed && after == place + 2)?;
+        let (high, after) = self.digit(place + 1, two_follow)?;
+        let (low, end) = self.digit(after, two_follow && after == place + 2)?;
         Some((high * 16 + low, end))
     }
 
-    /// Returns the byte of an escape without tabs and newlines at a place, if there is one.
+    /// Returns the value of the escape at a place, or None if none begins there that has no tabs and newlines.
     #[inline(always)]
     pub(super) fn escape_here(&mut self, place: usize) -> Option<u8>
         requires { place + 3 ≤ length self.old.text.now }
@@ -76,8 +81,8 @@ impl<'a> Source<'a> {
         Some(high * 16 + low)
     }
 
-    /// Returns the value of the hexadecimal digit from a place on, past tabs and newlines, and the place after it. If the place
-    /// is `inside`, it is known to be before the end of the text.
+    /// Returns the value of the hexadecimal digit that comes at a place or after tabs and newlines there, and the place
+    /// after the digit. `inside` says that the place is before the end of the text, which is not tested then.
     #[inline(always)]
     fn digit(&mut self, place: usize, inside: bool) -> Option<(u8, usize)>
         requires within { place ≤ length self.old.text.now }
@@ -95,7 +100,8 @@ impl<'a> Source<'a> {
         }
     }
 
-    /// Does what `digit_by_loop` does, through a `Source` of its own, so that the walk's `Source` can stay in registers.
+    /// Does what `digit_by_loop` does, with a local copy of the `Source`. That function is not inlined: if it got a
+    /// reference to the `Source` of the walk itself, the compiler could not keep that one in registers.
     #[inline(always)]
     fn digit_further(&mut self, place: usize) -> Option<(u8, usize)>
         requires { place ≤ length self.old.text.now }

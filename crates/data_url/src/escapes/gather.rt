@@ -2,9 +2,13 @@
 
 #![tactic(auto, using(crate::proofs::escapes::Walking::walks))]
 
-ghost use Rattle.std.specs.{Option.{option_map_or}, Prelude.{◌≡◌, ◌<◌, ◌≤◌, IfSome, length, slice_index, true}};
-ghost use Rattle.data_url.specs.{Pieces.{text_of, walk_of}, Steps.Chunks.{GivesBytes}, Steps.Window.{is_marked}};
-ghost use Rattle.data_url.specs.Steps.Walk.{Gathered, Gathering, Gathers, HasRoom, IsGathered, IsWide, Knows, Looking, MayGather, Moves};
+ghost use Rattle.std.specs.Option.{option_map_or};
+ghost use Rattle.std.specs.Prelude.{◌≡◌, ◌<◌, ◌≤◌, IfSome, length, slice_index, true};
+ghost use Rattle.data_url.specs.Pieces.{text_of, walk_of};
+ghost use Rattle.data_url.specs.Steps.Chunks.{GivesBytes};
+ghost use Rattle.data_url.specs.Steps.Window.{is_marked};
+ghost use Rattle.data_url.specs.Steps.Walk.{Gathered, Gathering, Gathers, HasRoom, IsGathered};
+ghost use Rattle.data_url.specs.Steps.Walk.{Knows, Looking, MayCopyBlocks, MayGather, Moves};
 
 use super::Piece;
 use super::cursor::{Ahead, Cursor, ESCAPE};
@@ -23,10 +27,11 @@ const DENSE: u32 = 18;
 pub(super) type Buffer = [u8; BUFFER_LEN];
 
 impl<'a> Cursor<'a> {
-    /// The next bytes, at most a number of them: a long stretch, or shorter ones and the values of escapes, gathered in a buffer if
-    /// all that it holds, or the rest of the text, is not more. None at the end of the body.
+    /// Returns the next bytes, at most `most` of them, or None if the body has ended: a long stretch of the text as it
+    /// is, or shorter ones and the values of escapes, gathered in a buffer. Nothing is gathered if `most` is less than
+    /// what the buffer holds and less than what is left of the text.
     #[inline(always)]
-    pub(super) fn next_bytes<'r>(&mut self, room: &'r mut Buffer, most: usize) -> Option<&'r [u8]>
+    pub(super) fn next_bytes<'r>(&mut self, buffer: &'r mut Buffer, most: usize) -> Option<&'r [u8]>
     where
         'a: 'r,
         requires knows { Knows self.old }
@@ -35,26 +40,26 @@ impl<'a> Cursor<'a> {
         ensures few { IfSome result (λ bytes. length bytes.now ≤ most) }
         ensures knows { Knows self.new }
     {
-        let len = self.gather_within(room, most);
+        let len = self.gather_within(buffer, most);
         if len > 0 {
-            return Some(&room[..len]);
+            return Some(&buffer[..len]);
         }
         match self.next(most) {
             None => None,
             Some(Piece::Slice(slice)) => Some(slice),
             Some(Piece::Byte(byte)) => {
-                room[0] = byte;
-                Some(&room[..1])
+                buffer[0] = byte;
+                Some(&buffer[..1])
             }
         }
     }
 
-    /// Does what `gather` does, if at most a number of bytes can be gathered, and otherwise nothing. The cursor is moved out and
-    /// back, so that it can stay in registers.
+    /// Does what `gather` does if that cannot gather more than `most` bytes, and otherwise nothing. This function is
+    /// not inlined. It works on a local copy of the cursor, so that the compiler can keep that in registers.
     #[inline(never)]
-    fn gather_within(&mut self, room: &mut Buffer, most: usize) -> usize
+    fn gather_within(&mut self, buffer: &mut Buffer, most: usize) -> usize
         requires { Knows self.old }
-        ensures gathers { Gathers self.old self.new room.old room.new 0 result }
+        ensures gathers { Gathers self.old self.new buffer.old buffer.new 0 result }
         ensures few { (result ≤ 512) × (result ≤ most) }
         ensures knows { Knows self.new }
     {
@@ -62,24 +67,24 @@ impl<'a> Cursor<'a> {
             return 0;
         }
         let mut cursor = replace(self, Cursor::new(&[]));
-        let len = cursor.gather(room);
+        let len = cursor.gather(buffer);
         *self = cursor;
         len
     }
 
-    /// Gathers the next short stretches and the values of escapes in a buffer, until it is full, the body ends or a long stretch
-    /// begins. Returns how many bytes are gathered.
+    /// Gathers the next short stretches and the values of escapes in a buffer, until it is full, the body ends or a
+    /// long stretch begins. Returns how many bytes are gathered.
     #[inline(always)]
-    fn gather(&mut self, room: &mut Buffer) -> usize
+    fn gather(&mut self, buffer: &mut Buffer) -> usize
         requires { Knows self.old }
-        ensures gathers { Gathers self.old self.new room.old room.new 0 result }
+        ensures gathers { Gathers self.old self.new buffer.old buffer.new 0 result }
         ensures few { result ≤ 512 }
         ensures knows { Knows self.new }
     {
         let mut len = 0;
         match self.ahead {
             Ahead::Escape(value, end) => {
-                room[0] = value;
+                buffer[0] = value;
                 len = 1;
                 self.place = end;
                 self.ahead = Ahead::Unknown;
@@ -87,19 +92,20 @@ impl<'a> Cursor<'a> {
             Ahead::AfterEscape => self.ahead = Ahead::Unknown,
             Ahead::Unknown | Ahead::End => {}
         }
-        while let Some(more) = self.gather_more(room, len) {
+        while let Some(more) = self.gather_more(buffer, len) {
             len = more;
         }
         len
     }
 
-    /// Gathers the next block, or what is left of the last one, after the bytes that were gathered before. Returns how many
-    /// bytes are gathered then, or None if the body ends, a long stretch begins or there is no room for two blocks.
+    /// Gathers the next block, or what is left of the last one, after the bytes that were gathered before. Returns how
+    /// many bytes are gathered then, or None if the body ends, a long stretch begins or there is no room for two
+    /// blocks.
     #[inline(always)]
-    fn gather_more(&mut self, room: &mut Buffer, len: usize) -> Option<usize>
+    fn gather_more(&mut self, buffer: &mut Buffer, len: usize) -> Option<usize>
         requires gathering { Gathering self.old }
         requires few { len ≤ 512 }
-        ensures gathered { Gathered self.old self.new room.old room.new len
+        ensures gathered { Gathered self.old self.new buffer.old buffer.new len
             (option_map_or (λ n. n) result len) }
         ensures moves { IfSome result (λ _. Moves self.old self.new
             × (self.old.ahead ≡ Ahead.Unknown)) }
@@ -111,55 +117,57 @@ impl<'a> Cursor<'a> {
             self.ahead = Ahead::End;
             return None;
         }
-        if self.place >= self.block.seen {
+        if self.place >= self.block.end {
             if self.source.len() - self.place >= 2 * BLOCK {
                 let bytes = self.look_whole();
                 if self.block.marks.count_ones() < SEVERAL {
                     if len == 0 && self.block.marks == 0 {
                         return None;
                     }
-                    return Some(self.gather_block(room, len, true));
+                    return Some(self.gather_block(buffer, len, true));
                 }
-                if let Some(more) = self.pack_whole(bytes, room, len) {
+                if let Some(more) = self.pack_whole(bytes, buffer, len) {
                     return Some(more);
                 }
-            } else if let Some(more) = self.pack_end(room, len) {
+            } else if let Some(more) = self.pack_end(buffer, len) {
                 return Some(more);
             }
         }
         if len == 0 && self.block.marks == 0 {
             return None;
         }
-        let wide = self.source.len() - self.block.seen >= BLOCK
+        let whole_blocks = self.source.len() - self.block.end >= BLOCK
             && self.block.marks.count_ones() < DENSE;
-        Some(if wide {
-            self.gather_block(room, len, true)
+        Some(if whole_blocks {
+            self.gather_block(buffer, len, true)
         } else {
-            self.gather_block(room, len, false)
+            self.gather_block(buffer, len, false)
         })
     }
 
-    /// Gathers the rest of the block that was read, after the bytes that were gathered before. If the block is `wide`, another one
-    /// follows it, and 64 bytes are copied at a time. Otherwise escapes that follow one another are gathered without a look for marks.
+    /// Gathers the rest of the block that was read last, after the bytes that were gathered before. `whole_blocks` says
+    /// that 64 bytes or more follow the block in the text. Then 64 bytes are copied at a time. Otherwise, escapes that
+    /// follow one another are gathered without a search for marks.
     #[inline(always)]
-    fn gather_block(&mut self, room: &mut Buffer, len: usize, wide: bool) -> usize
+    fn gather_block(&mut self, buffer: &mut Buffer, len: usize, whole_blocks: bool) -> usize
         requires may { MayGather self.old len }
-        requires here { self.old.place < self.old.block.seen }
-        requires wide { IsWide self.old wide }
-        ensures gathered { Gathered self.old self.new room.old room.new len result }
+        requires here { self.old.place < self.old.block.end }
+        requires whole_blocks { MayCopyBlocks self.old whole_blocks }
+        ensures gathered { Gathered self.old self.new buffer.old buffer.new len result }
         ensures moves { Moves self.old self.new }
     {
         let mut len = len;
-        while self.place < self.block.seen {
+        while self.place < self.block.end {
             let place = self.place;
             let Some(mark) = self.block.mark_from(&self.source, place) else {
-                self.source.copy(place, self.block.seen, room, len, wide);
-                self.place = self.block.seen;
+                self.source
+                    .copy(place, self.block.end, buffer, len, whole_blocks);
+                self.place = self.block.end;
                 return len + (self.place - place);
             };
-            self.source.copy(place, mark, room, len, wide);
+            self.source.copy(place, mark, buffer, len, whole_blocks);
             self.place = mark;
-            let (more, ended) = self.gather_mark(room, len + (mark - place), wide);
+            let (more, ended) = self.gather_mark(buffer, len + (mark - place), whole_blocks);
             len = more;
             if ended {
                 return len;
@@ -168,20 +176,21 @@ impl<'a> Cursor<'a> {
         len
     }
 
-    /// Gathers what begins at the mark at the place. Returns how many bytes are gathered then, and whether the body ends.
+    /// Gathers what begins at the place, where a mark is. Returns how many bytes are gathered then, and whether the
+    /// body ends.
     #[inline(always)]
-    fn gather_mark(&mut self, room: &mut Buffer, len: usize, wide: bool) -> (usize, bool)
+    fn gather_mark(&mut self, buffer: &mut Buffer, len: usize, whole_blocks: bool) -> (usize, bool)
         requires may { MayGather self.old len }
-        requires here { self.old.place < self.old.block.seen }
-        requires wide { IsWide self.old wide }
+        requires here { self.old.place < self.old.block.end }
+        requires whole_blocks { MayCopyBlocks self.old whole_blocks }
         requires marked { is_marked (slice_index (text_of self.old) self.old.place) ≡ true }
-        ensures gathers { Gathers self.old self.new room.old room.new len result.0 }
+        ensures gathers { Gathers self.old self.new buffer.old buffer.new len result.0 }
         ensures goes { IsGathered self.old self.new result.0 result.1 }
     {
         let mark = self.place;
-        match self.source.at_mark(mark, wide) {
+        match self.source.at_mark(mark, whole_blocks) {
             AtMark::Stays => {
-                room[len] = b'%';
+                buffer[len] = b'%';
                 self.place = mark + 1;
                 (len + 1, false)
             }
@@ -190,12 +199,12 @@ impl<'a> Cursor<'a> {
                 (len, false)
             }
             AtMark::Escape(value, end) => {
-                room[len] = value;
+                buffer[len] = value;
                 self.place = end;
-                let len = if wide {
+                let len = if whole_blocks {
                     len + 1
                 } else {
-                    self.gather_escapes(room, len + 1)
+                    self.gather_escapes(buffer, len + 1)
                 };
                 (len, false)
             }
@@ -208,13 +217,13 @@ impl<'a> Cursor<'a> {
 
     /// Gathers the values of escapes that follow one another after an escape.
     #[inline(always)]
-    fn gather_escapes(&mut self, room: &mut Buffer, len: usize) -> usize
+    fn gather_escapes(&mut self, buffer: &mut Buffer, len: usize) -> usize
         requires unknown { self.old.ahead ≡ Ahead.Unknown }
         requires looking { Looking self.old.source self.old.block self.old.place 3 }
         requires room { HasRoom self.old len }
-        ensures gathers { Gathers self.old self.new room.old room.new len result }
+        ensures gathers { Gathers self.old self.new buffer.old buffer.new len result }
         ensures may { MayGather self.new result }
-        ensures block { self.new.block.seen ≡ self.old.block.seen }
+        ensures block { self.new.block.end ≡ self.old.block.end }
     {
         let mut len = len;
         let end = BUFFER_LEN.min(len + (self.source.len() - self.place) / ESCAPE);
@@ -223,7 +232,7 @@ impl<'a> Cursor<'a> {
                 return len;
             };
             self.place += ESCAPE;
-            room[len] = value;
+            buffer[len] = value;
             len += 1;
         }
         len

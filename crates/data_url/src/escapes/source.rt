@@ -2,15 +2,14 @@
 
 #![tactic(auto, using(crate::proofs::escapes::Walking::sources))]
 
-ghost use Rattle.std.specs.Prelude.{◌≡◌, IsTrue, ◌+◌, ◌-◌, ◌^◌, ◌++◌, ◌<◌, ◌≤◌, drop, length, map, min, replicate, slice_index, slice_range, take};
-ghost use Rattle.std.specs.{Option.{option_map}, Simd.Lanes.{mask_l}};
-ghost use Rattle.data_url.specs.Steps.{Tail.{IsBodyEnd}, Walk.{IsBlock, Looking}, Window.{is_marked}};
+ghost use Rattle.std.specs.Prelude.{◌≡◌, ◌+◌, ◌-◌, ◌^◌, ◌++◌, ◌<◌, ◌≤◌, IsTrue};
+ghost use Rattle.std.specs.Prelude.{drop, length, slice_index, slice_range, take};
+ghost use Rattle.std.specs.Option.{option_map};
+ghost use Rattle.data_url.specs.Steps.Tail.{IsBodyEnd};
 ghost use Rattle.data_url.specs.Url.{after, number_sign};
 
 use super::gather::Buffer;
-use super::lanes::marks_of;
 use super::looks::Looks;
-use super::marks::Block;
 use crate::classes::lanes::BLOCK;
 use std::simd::prelude::*;
 
@@ -22,7 +21,7 @@ pub(super) struct Source<'a> {
 }
 
 impl<'a> Source<'a> {
-    /// A text of which no byte was examined yet.
+    /// Returns the text, of which no byte was examined yet.
     #[inline(always)]
     pub(super) fn new(text: &'a [u8]) -> Self
         ensures text { result.text.now ≡ text.entry.now }
@@ -34,7 +33,7 @@ impl<'a> Source<'a> {
         }
     }
 
-    /// The number of its bytes.
+    /// Returns how many bytes the text has.
     #[inline(always)]
     pub(super) fn len(&self) -> usize
         ensures { result ≡ length self.now.text.now }
@@ -42,7 +41,7 @@ impl<'a> Source<'a> {
         self.text.len()
     }
 
-    /// The byte at a place, which counts as one look.
+    /// Returns the byte at a place. This counts as one look.
     #[inline(always)]
     pub(super) fn look(&mut self, place: usize) -> u8
         requires { place < length self.old.text.now }
@@ -90,23 +89,32 @@ impl<'a> Source<'a> {
         &self.text[start..end]
     }
 
-    /// Copies a stretch of at most 64 bytes into a buffer, without a look. The bytes after it in the buffer may be overwritten.
+    /// Copies a stretch of at most 64 bytes into a buffer, without a look. The bytes after it in the buffer may be
+    /// overwritten. `whole_blocks` says that the text has 64 bytes from the start of the stretch on. Then 64 bytes are
+    /// copied, which is faster.
     #[inline(always)]
-    pub(super) fn copy(&self, start: usize, end: usize, room: &mut Buffer, len: usize, wide: bool)
+    pub(super) fn copy(
+        &self,
+        start: usize,
+        end: usize,
+        buffer: &mut Buffer,
+        len: usize,
+        whole_blocks: bool,
+    )
         requires forward { start ≤ end }
         requires short { end ≤ start + 64 }
         requires within { end ≤ length self.now.text.now }
-        requires wide { IsTrue wide → start + 64 ≤ length self.now.text.now }
+        requires whole_blocks { IsTrue whole_blocks → start + 64 ≤ length self.now.text.now }
         requires room { len + 64 ≤ 512 }
-        ensures { take (len + (end - start)) room.new
-            ≡ take len room.old ++ slice_range self.now.text.now start end }
+        ensures { take (len + (end - start)) buffer.new
+            ≡ take len buffer.old ++ slice_range self.now.text.now start end }
     {
         let bytes = self.text;
-        if wide {
+        if whole_blocks {
             let block = u8x64::from_slice(&bytes[start..start + BLOCK]);
-            block.copy_to_slice(&mut room[len..len + BLOCK]);
+            block.copy_to_slice(&mut buffer[len..len + BLOCK]);
         } else {
-            room[len..len + (end - start)].copy_from_slice(&bytes[start..end]);
+            buffer[len..len + (end - start)].copy_from_slice(&bytes[start..end]);
         }
     }
 }
@@ -121,24 +129,4 @@ pub(crate) fn fragment_at(text: &str, place: usize) -> Option<&str>
         return None;
     }
     Some(&text[place + 1..])
-}
-
-/// Returns the marks of fewer than 64 bytes.
-#[inline(never)]
-pub(super) fn last_marks(rest: &[u8]) -> u64
-    requires { length rest.now < 64 }
-    ensures { result ≡ mask_l (map is_marked rest.now) }
-{
-    marks_of(padded(rest), false)
-}
-
-/// Returns fewer than 64 bytes, and then zeros.
-#[inline(always)]
-pub(super) fn padded(rest: &[u8]) -> u8x64
-    requires { length rest.now < 64 }
-    ensures { result ≡ rest.now ++ replicate (64 - length rest.now) 0 }
-{
-    let mut block = [0; BLOCK];
-    block[..rest.len()].copy_from_slice(rest);
-    u8x64::from_array(block)
 }

@@ -1,8 +1,9 @@
 //! A walk over the text of a body, as the rest of the library sees it: it gives the body's bytes in few pieces.
 
 ghost use Rattle.std.specs.Prelude.{◌≡◌, ◌-◌, ◌≤◌, IfSome, IsTrue, [], drop, length};
-ghost use Rattle.data_url.specs.{Pieces.{walk_at_start}, Url.{after, number_sign}};
-ghost use Rattle.data_url.specs.Steps.{Chunks.{GivesBytes, IsBodyFrom, IsBodyPrefix}, Tail.{IsBodyEnd}};
+ghost use Rattle.data_url.specs.Url.{after, number_sign};
+ghost use Rattle.data_url.specs.Steps.Chunks.{GivesBytes, IsBodyFrom, IsBodyPrefix};
+ghost use Rattle.data_url.specs.Steps.Tail.{IsBodyEnd};
 
 use super::cursor::{Ahead, Cursor};
 use super::gather::BUFFER_LEN;
@@ -25,8 +26,8 @@ impl<'a> Model for Walk<'a> {
 }
 
 impl<'a> Walk<'a> {
-    /// Returns the bytes of a text before its first mark, at most `most` of them, and the walk after them. They are bytes of
-    /// the body.
+    /// Returns the bytes of a text before its first mark, at most `most` of them, and the walk after them. They are
+    /// bytes of the body.
     #[inline(always)]
     pub(crate) fn after_prefix(text: &'a [u8], most: usize) -> (&'a [u8], Self)
         ensures prefix { IsBodyPrefix text.entry.now result.0.now result.1 }
@@ -48,11 +49,11 @@ impl<'a> Walk<'a> {
         }
     }
 
-    /// Returns the next bytes, at most a number of them, or None if the body has ended: a long stretch of the text as it is, or
-    /// shorter ones and the values of escapes, gathered in a buffer.
+    /// Returns the next bytes, at most `most` of them, or None if the body has ended: a long stretch of the text as
+    /// it is, or shorter ones and the values of escapes, gathered in a buffer.
     pub(crate) fn next_bytes<'r>(
         &mut self,
-        room: &'r mut [u8; BUFFER_LEN],
+        buffer: &'r mut [u8; BUFFER_LEN],
         most: usize,
     ) -> Option<&'r [u8]>
     where
@@ -61,7 +62,7 @@ impl<'a> Walk<'a> {
         ensures gives { GivesBytes self.old result self.new }
         ensures few { IfSome result (λ bytes. length bytes.now ≤ most) }
     {
-        self.cursor.next_bytes(room, most)
+        self.cursor.next_bytes(buffer, most)
     }
 
     /// Returns whether the walk is known to be at the end of the body.
@@ -77,7 +78,8 @@ impl<'a> Walk<'a> {
     #[tactic(auto, using(crate::proofs::escapes::Walking::walking))]
     pub(crate) fn place(&self) -> usize
         ensures from { IsBodyFrom self.now.text result self.now }
-        ensures no_hash { after number_sign self.now.text ≡ after number_sign (drop result self.now.text) }
+        ensures no_hash { after number_sign self.now.text
+            ≡ after number_sign (drop result self.now.text) }
     {
         self.cursor.place
     }

@@ -12,8 +12,9 @@ use std::simd::prelude::*;
 /// How many bytes the closure is called with at most: those of a block of 64 symbols.
 const PIECE: usize = 48;
 
-/// A decoder of base64 ([Infra Standard, forgiving-base64 decode](https://infra.spec.whatwg.org/#forgiving-base64-decode)) that
-/// is fed its text in parts, cut anywhere, and calls a closure with the bytes.
+/// A decoder of base64 ([Infra Standard, forgiving-base64
+/// decode](https://infra.spec.whatwg.org/#forgiving-base64-decode)) that is fed its text in parts, cut anywhere, and
+/// calls a closure with the bytes.
 ///
 /// It allocates nothing: it keeps at most three symbols, and counts the padding `=` up to three. Contracts see its
 /// closure, these symbols, that count and whether it has failed (`state_of`).
@@ -32,7 +33,9 @@ where
     F: FnMut(&[u8]) -> Result<(), E>,
 {
     ghost use Rattle.std.specs.Fn.{CalledAt};
-    ghost use Rattle.data_url.specs.{Decoder.{Feeds, Finishes, start, state_of}, Steps.Holding.{CallsOnce, EndsWithin, FeedsUnescaped, Flushes, Reads, ReadsText}};
+    ghost use Rattle.data_url.specs.Decoder.{Feeds, Finishes, start, state_of};
+    ghost use Rattle.data_url.specs.Steps.Holding.{CallsOnce, EndsWithin, FeedsUnescaped};
+    ghost use Rattle.data_url.specs.Steps.Holding.{Flushes, ReadsHolding, ReadsUntilFault};
     ghost use Rattle.data_url.specs.Steps.Parts.{HoldsLeft, IsResumed};
 
     /// Returns a decoder that has been fed nothing yet. The closure has to accept any bytes, whatever it was called
@@ -130,15 +133,16 @@ where
         DecodeError::InvalidBase64(InvalidBase64 { details })
     }
 
-    /// Between groups, calls the closure with each block of 64 symbols that a text begins with. Returns how many bytes these take.
+    /// Calls the closure with the bytes of each block of 64 symbols that a text begins with. Does nothing if something
+    /// is left over of the text before. Returns how many bytes of the text the blocks take.
     #[inline(always)]
     fn read_blocks(&mut self, text: &[u8]) -> Result<usize, DecodeError<E>>
         requires callable { F.IsAlwaysCallable (state_of self.old).closure }
         requires going { (state_of self.old).failed ≡ false }
         ensures callable { F.IsAlwaysCallable (state_of self.new).closure }
         ensures read { MatchResult result
-            (λ taken. (taken ≤ length text.now) × Reads (CalledAt F.FnMut) (state_of self.old)
-            (take taken text.now) [] (state_of self.new))
+            (λ taken. (taken ≤ length text.now) × ReadsHolding (CalledAt F.FnMut)
+            (state_of self.old) (take taken text.now) [] (state_of self.new))
             (λ error. EndsWithin (CalledAt F.FnMut) (state_of self.old) text.now error
             (state_of self.new)) }
     {
@@ -160,19 +164,23 @@ where
         Ok(at)
     }
 
-    /// Calls the closure with the bytes of the groups before a text's first fault. Returns the fault's place and kind, or the length.
+    /// Feeds a text up to its first fault: calls the closure with the bytes of the groups before it. Returns the place
+    /// of the fault and its kind, or the length of the text and None if there is no fault.
     #[inline(always)]
-    fn read(&mut self, text: &[u8]) -> Result<(usize, Option<InvalidBase64Details>), DecodeError<E>>
+    fn feed_until_fault(
+        &mut self,
+        text: &[u8],
+    ) -> Result<(usize, Option<InvalidBase64Details>), DecodeError<E>>
         requires callable { F.IsAlwaysCallable (state_of self.old).closure }
         requires going { (state_of self.old).failed ≡ false }
         ensures callable { F.IsAlwaysCallable (state_of self.new).closure }
-        ensures read { ReadsText (CalledAt F.FnMut) (state_of self.old) text.now result
+        ensures read { ReadsUntilFault (CalledAt F.FnMut) (state_of self.old) text.now result
             (state_of self.new) }
     {
         let mut at = self.read_blocks(text)?;
         let mut groups = HeldGroups::new();
         while at < text.len() {
-            match self.state.take_some(&text[at..], &mut groups) {
+            match self.state.read_groups_or_byte(&text[at..], &mut groups) {
                 Ok(taken) => at += taken,
                 Err(details) => {
                     self.flush(groups.as_slice())?;
@@ -205,14 +213,14 @@ where
         ensures fed { Feeds (CalledAt F.FnMut) (state_of self.old) input.now result
             (state_of self.new) }
     {
-        match self.read(input)?.1 {
+        match self.feed_until_fault(input)?.1 {
             None => Ok(()),
             Some(details) => Err(self.refuse(details)),
         }
     }
 
-    /// Decodes a part of the tail of a data: URL up to its first `#` or `%`, as `feed` does. Returns the place of that byte, or the
-    /// length of the part. An error is that of `feed` with bytes before that place.
+    /// Decodes a part of the tail of a data: URL up to its first `#` or `%`, as `feed` does. Returns the place of that
+    /// byte, or the length of the part. An error is that of `feed` with bytes before that place.
     #[inline(always)]
     pub(crate) fn feed_unescaped(&mut self, part: &[u8]) -> Result<usize, DecodeError<E>>
         requires few { length part.now ≤ 4096 }
@@ -222,7 +230,7 @@ where
         ensures fed { FeedsUnescaped (CalledAt F.FnMut) (state_of self.old) part.now result
             (state_of self.new) }
     {
-        let (place, fault) = self.read(part)?;
+        let (place, fault) = self.feed_until_fault(part)?;
         let Some(details) = fault else {
             return Ok(place);
         };
@@ -238,7 +246,8 @@ where
     ///
     /// Returns `InvalidBase64`, without a call of the closure, if a lone symbol is left over or the padding does not
     /// fit: there may be no `=` or, after two symbols, two or, after three, one. Returns `WriteError` with the
-    /// closure's error. `finish_with` returns the closure as well. It may be called only while `has_failed` returns false.
+    /// closure's error. `finish_with` returns the closure as well. It may be called only while `has_failed` returns
+    /// false.
     pub fn finish(self) -> Result<(), DecodeError<E>>
         requires callable { F.IsAlwaysCallable (state_of self).closure }
         requires going { (state_of self).failed ≡ false }

@@ -1,17 +1,20 @@
-//! White space between the symbols of base64 (Infra Standard, forgiving-base64 decode, step 1): gaps between two symbols of a
-//! row, and units, the symbols of several rows without the white space between them.
+//! White space between the symbols of base64 (Infra Standard, forgiving-base64 decode, step 1). A gap is the white
+//! space between two symbols. A unit is the symbols of several rows, without the gaps between them.
 
-ghost use Rattle.std.specs.Prelude.{◌≡◌, ◌*◌, ◌+◌, ◌%◌, ◌≤◌, ◌++◌, IfSome, IsTrue, drop, filter, length, map, take, ℕ};
+ghost use Rattle.std.specs.Prelude.{◌≡◌, ◌*◌, ◌+◌, ◌%◌, ◌≤◌, ◌++◌};
+ghost use Rattle.std.specs.Prelude.{IfSome, IsTrue, drop, filter, length, map, take, ℕ};
 ghost use Rattle.std.specs.{Char.{is_ascii_whitespace}, List.{list_all, prefix_len}};
 ghost use Rattle.data_url.specs.Base64.{groups, is_symbol, symbol_value};
 ghost use Rattle.data_url.specs.Steps.Groups.{IsOverGap, is_symbol_or_space};
 
-use super::alphabet::{decode_row, is_of_symbols, is_spaced, is_symbol, others, symbols_ahead};
+use super::alphabet::{
+    decode_row, is_of_symbols, is_spaced, is_symbol, non_symbols, symbols_ahead,
+};
 use crate::classes::lanes::{put, repeated, row, spliced};
 use crate::packing::pack_row;
 use std::simd::prelude::*;
 
-/// Returns how many bytes of white space a text begins with. The most frequent ends of lines come first.
+/// Returns how many bytes of white space a text begins with. The ends of lines that are most frequent are tested first.
 #[inline(always)]
 pub(crate) fn spaces_ahead(text: &[u8]) -> usize
     requires { 3 ≤ length text.now }
@@ -33,15 +36,16 @@ pub(crate) fn spaces_after_twelve(text: &[u8], row: u8x16) -> usize
     ensures within { 12 + result ≤ length text.now }
     ensures spaces { result ≡ prefix_len is_ascii_whitespace (drop 12 text.now) }
 {
-    // Only byte 12 of the row is not a symbol, so a newline there is all the white space.
-    if others(row) == 1 << 12 && text[12] == b'\n' {
+    // Byte 12 is the only byte of the row that is not a symbol. If it is a newline, it is all the white space.
+    if non_symbols(row) == 1 << 12 && text[12] == b'\n' {
         return 1;
     }
     spaces_ahead(&text[12..])
 }
 
-/// Returns the first sixteen symbols of a text that has a gap before the last of them, and the length of the gap. Returns None
-/// if there are several gaps or another byte, and if the text has fewer than 19 bytes or fewer than sixteen symbols.
+/// Returns the first sixteen symbols of a text that has one gap before the last of them, and the length of the gap.
+/// Returns None if there are several gaps, or a byte that is neither a symbol nor white space. Returns None too if the
+/// text has fewer than 19 bytes or fewer than sixteen symbols.
 #[inline(always)]
 pub(crate) fn row_over_gap(text: &[u8]) -> Option<(u8x16, usize)>
     ensures { IfSome result (λ r. IsOverGap text.now r.0 r.1) }
@@ -62,8 +66,9 @@ pub(crate) fn row_over_gap(text: &[u8]) -> Option<(u8x16, usize)>
     Some((symbols, spaces))
 }
 
-/// Packs the symbols of the rows that a text begins with, as long as these have only symbols and white space, up to the
-/// row in which a number of symbols is reached. Returns how many symbols there are, and the length of the rows.
+/// Packs the symbols of the rows that a text begins with. It ends before a row with a byte that is neither a symbol nor
+/// white space, or after the row with which there are at least `enough` symbols. Returns how many symbols are packed,
+/// and how many bytes the rows have.
 #[inline(always)]
 pub(crate) fn pack_rows(text: &[u8], symbols: &mut [u8], enough: usize) -> (usize, usize)
     requires { enough + 32 ≤ length symbols.old }
@@ -78,13 +83,14 @@ pub(crate) fn pack_rows(text: &[u8], symbols: &mut [u8], enough: usize) -> (usiz
         if !is_spaced(repeated(row)) {
             break;
         }
-        have = pack_row(row, others(row) as usize, symbols, have);
+        have = pack_row(row, non_symbols(row) as usize, symbols, have);
         at += 16;
     }
     (have, at)
 }
 
-/// Goes back in a text to where whole groups end. Returns how many symbols come before that, and the place.
+/// Goes back in a text to the end of a whole group, from the place `at`, before which there are `have` symbols. Returns
+/// how many symbols come before the new place, and that place.
 #[inline(always)]
 pub(crate) fn before_partial(text: &[u8], have: usize, at: usize) -> (usize, usize)
     requires within { at ≤ length text.now }
@@ -103,7 +109,8 @@ pub(crate) fn before_partial(text: &[u8], have: usize, at: usize) -> (usize, usi
     (have, at)
 }
 
-/// Decodes the groups of a number of symbols to a place. Up to 16 bytes after them may be overwritten.
+/// Decodes the groups of the first `count` symbols of a unit, and writes their bytes from the place `at` on. Up to
+/// sixteen bytes after these may be overwritten.
 #[inline(always)]
 pub(crate) fn decode_unit(symbols: &[u8], count: usize, bytes: &mut [u8], at: usize)
     requires long { count + 16 ≤ length symbols.now }

@@ -1,18 +1,15 @@
 //! The bytes of whole groups of a text of base64 (RFC 4648, section 4) that the closure was not yet called with.
 
-ghost use Rattle.std.specs.Prelude.{◌≡◌, ◌%◌, ◌+◌, ◌≤◌, ◌<◌, ◌++◌, [], drop, length, take};
+ghost use Rattle.std.specs.Prelude.{◌≡◌, ◌%◌, ◌+◌, ◌≤◌, ◌<◌, ◌++◌, [], drop, length};
 
-use super::alphabet::{decode_row, is_of_symbols, symbols_ahead};
-use super::gaps::{before_partial, decode_unit, pack_rows, row_over_gap, spaces_after_twelve};
-use crate::classes::lanes::{put, repeated, row, short_row};
-
-/// How many bytes of groups are held before the closure is called. With 16 groups, lines of 76 symbols take a fifth longer.
+/// How many bytes are held before the closure is called: those of 64 groups. If it were called after 16 groups,
+/// decoding lines of 76 symbols would take a fifth longer.
 pub(crate) const FULL: usize = 192;
 
 /// The bytes of up to 64 groups, and of up to three groups of the row that was added last.
 #[derive(Drop)]
 pub(crate) struct HeldGroups {
-    bytes: [u8; 224],
+    pub(super) bytes: [u8; 224],
     pub(crate) len: usize,
     ghost within: { len < 204 },
     ghost whole: { len % 3 ≡ 0 },
@@ -20,7 +17,7 @@ pub(crate) struct HeldGroups {
 }
 
 impl HeldGroups {
-    ghost use Rattle.data_url.specs.Steps.Groups.{Fills, held_bytes};
+    ghost use Rattle.data_url.specs.Steps.Groups.{held_bytes};
 
     /// Returns no groups.
     #[inline(always)]
@@ -62,85 +59,5 @@ impl HeldGroups {
     {
         self.bytes[self.len..self.len + 3].copy_from_slice(&group);
         self.len += 3;
-    }
-
-    /// Adds whole groups that a text begins with, at most two if it has fewer than sixteen bytes. Of a longer text, white space is
-    /// skipped, and a rest of fewer than sixteen bytes may be left. Returns how many bytes were read.
-    #[inline(always)]
-    pub(crate) fn fill(&mut self, text: &[u8]) -> usize
-        requires room { self.old.len < 192 }
-        ensures within { result ≤ length text.now }
-        ensures fills { Fills (held_bytes self.old) (take result text.now) (held_bytes self.new) }
-    {
-        if text.len() < 4 {
-            return 0;
-        }
-        if text.len() < 16 {
-            let row = short_row(text);
-            let groups = symbols_ahead(row) / 4;
-            put(&mut self.bytes, self.len, decode_row(row));
-            self.len += 3 * groups;
-            return 4 * groups;
-        }
-        let taken = self.fill_rows(text);
-        if self.len >= FULL || text.len() - taken < 16 {
-            return taken;
-        }
-        taken + self.fill_spaced(&text[taken..])
-    }
-
-    /// Adds the groups of rows of sixteen symbols, each with a gap at most, until 64 groups are held. Returns how many bytes they take.
-    #[inline(never)]
-    fn fill_rows(&mut self, text: &[u8]) -> usize
-        requires room { self.old.len < 192 }
-        ensures within { result ≤ length text.now }
-        ensures fills { Fills (held_bytes self.old) (take result text.now) (held_bytes self.new) }
-    {
-        let rows_end = text.len().saturating_sub(15);
-        let mut len = self.len;
-        // One byte before the place where 64 groups are held: 85 / 64 is a little less than 4 / 3.
-        let mut end = rows_end.min((FULL - len) * 85 / 64);
-        let mut at = 0;
-        while at < end {
-            let row = row(text, at);
-            if is_of_symbols(repeated(row)) {
-                put(&mut self.bytes, len, decode_row(row));
-                len += 12;
-                at += 16;
-            } else if symbols_ahead(row) == 12 {
-                let spaces = spaces_after_twelve(&text[at..], row);
-                put(&mut self.bytes, len, decode_row(row));
-                len += 9;
-                at += 12 + spaces;
-                end = rows_end.min(end + spaces);
-            } else {
-                let Some(found) = row_over_gap(&text[at..]) else {
-                    self.len = len;
-                    return at;
-                };
-                let symbols = found.0;
-                put(&mut self.bytes, len, decode_row(symbols));
-                len += 12;
-                at += 16 + found.1;
-                end = rows_end.min(end + found.1);
-            }
-        }
-        self.len = len;
-        at
-    }
-
-    /// Adds the whole groups of rows of symbols and white space, until 64 groups are held. Returns how many bytes they take.
-    #[inline(never)]
-    fn fill_spaced(&mut self, text: &[u8]) -> usize
-        requires room { self.old.len < 192 }
-        ensures within { result ≤ length text.now }
-        ensures fills { Fills (held_bytes self.old) (take result text.now) (held_bytes self.new) }
-    {
-        let mut symbols = [0; 288];
-        let (have, at) = pack_rows(text, &mut symbols, (FULL - self.len) / 3 * 4);
-        let (have, taken) = before_partial(text, have, at);
-        decode_unit(&symbols, have, &mut self.bytes, self.len);
-        self.len += have / 4 * 3;
-        taken
     }
 }

@@ -8,8 +8,8 @@ use crate::body::Stop;
 use crate::forgiving_base64::{InvalidBase64Details, LeftOver};
 
 /// A body of a data: URL that is decoded in parts ([Fetch Standard, section
-/// 6](https://fetch.spec.whatwg.org/#data-url-processor)): its tail, which is the text after the comma, whether it is base64, and
-/// where it goes on. It is a plain value, which may be stored and copied.
+/// 6](https://fetch.spec.whatwg.org/#data-url-processor)): its tail, which is the text after the comma, whether it is
+/// base64, and where it goes on. It is a plain value, which may be stored and copied.
 #[derive(Clone, Copy)]
 pub struct Body<'a> {
     tail: &'a [u8],
@@ -42,7 +42,8 @@ pub enum Progress<'a> {
 
 impl<'a> Body<'a> {
     ghost use Rattle.std.specs.Prelude.{MatchOption};
-    ghost use Rattle.data_url.specs.{DataUrl.{is_base64, url_body, url_tail}, Parts.{IsBodyAt, WritesPart, is_resumable, rest_of}};
+    ghost use Rattle.data_url.specs.DataUrl.{is_base64, url_body, url_tail};
+    ghost use Rattle.data_url.specs.Parts.{IsBodyAt, WritesPart, is_resumable, rest_of};
 
     /// Returns the body of a URL, of which nothing was decoded yet.
     pub fn new(url: &DataUrl<'a>) -> Body<'a>
@@ -59,8 +60,8 @@ impl<'a> Body<'a> {
         }
     }
 
-    /// Returns the body that goes on at a place in a tail, in bytes, after what base64 has left over. The tail may be any bytes,
-    /// and the place any place in it: the text from there on is decoded by itself.
+    /// Returns the body that goes on at a place in a tail, in bytes, after what base64 has left over. The tail may be
+    /// any bytes, and the place any place in it: the text from there on is decoded by itself.
     ///
     /// Returns None if the place is not in the tail, and if something is left over of a body that is not base64.
     pub fn resume(
@@ -112,17 +113,17 @@ impl<'a> Body<'a> {
         self.left_over
     }
 
-    /// Writes the next bytes of the body to the start of an output, and leaves the rest of the output as it is. Tabs and newlines
-    /// are dropped, escapes are decoded (URL Standard, section 1.3), and base64 is decoded after that (Infra Standard,
-    /// forgiving-base64 decode).
+    /// Writes the next bytes of the body to the start of an output, and leaves the rest of the output as it is. Tabs
+    /// and newlines are dropped, escapes are decoded (URL Standard, section 1.3), and base64 is decoded after that
+    /// (Infra Standard, forgiving-base64 decode).
     ///
-    /// Of a body that is not base64, writes until the body ends or the output is full, but for fewer than 512 bytes of a
-    /// larger output. Of base64, writes whole groups as far as they fit; white space counts as symbols. With an output
-    /// of four bytes or more the place moves forward. An output that is as long as the rest of the tail, and has six
-    /// bytes or more, gets the whole rest of the body.
+    /// Of a body that is not base64, writes until the body ends or the output is full. It may stop earlier, when fewer
+    /// than 512 bytes of a larger output are left. Of base64, writes whole groups as far as they fit; white space
+    /// counts as symbols. With an output of four bytes or more the place moves forward. An output that is as long as
+    /// the rest of the tail, and has six bytes or more, gets the whole rest of the body.
     ///
-    /// Returns how many bytes were written, and how the body goes on: with the rest of the body, with the place where it has
-    /// ended, or with the fault if its base64 is not valid.
+    /// Returns how many bytes were written, and how the body goes on: with the rest of the body, with the place where
+    /// it has ended, or with the fault if its base64 is not valid.
     pub fn next_part(self, output: &mut [u8]) -> Part<'a>
         ensures { WritesPart self.entry output.old output.new result }
     {

@@ -28,13 +28,13 @@ pub struct Encoded {
 pub fn encode_fragment(text: &[u8], output: &mut [u8]) -> Encoded
     ensures { EncodesPart text.now output.old output.new result }
 {
-    let mut room = [0; BUFFER_LEN];
+    let mut buffer = [0; BUFFER_LEN];
     let mut read = 0;
     let mut len = 0;
     while read < text.len() && output.len() - len >= WIDEST {
         let rest = &text[read..];
         let part = &rest[..rest.len().min((output.len() - len) / WIDEST)];
-        let (written, after) = encode_next(EncodeSet::Fragment, part, &mut room);
+        let (written, after) = encode_next(EncodeSet::Fragment, part, &mut buffer);
         push(output, &mut len, written);
         read += part.len() - after.len();
     }

@@ -10,7 +10,8 @@ use crate::escapes::Walk;
 use crate::forgiving_base64::{DecodeError, InvalidBase64Details, LeftOver};
 use std::convert::Infallible;
 
-/// Writes a piece to an output, after the bytes that are written, if it fits. Their number goes up with it.
+/// Writes a piece to an output after its first `len` bytes, and adds its length to `len`. Does nothing if it does not
+/// fit.
 #[inline(always)]
 pub(super) fn push(output: &mut [u8], len: &mut usize, piece: &[u8])
     ensures { Writes piece.now output.old len.old output.new len.new }
@@ -71,8 +72,8 @@ fn write_plain(tail: &[u8], output: &mut [u8]) -> (usize, Result<Stop, InvalidBa
     (len, Ok(Stop::Paused(walk.place())))
 }
 
-/// Decodes the next bytes of a body of base64 into an output, after what is left over. An output of fewer than two bytes gets nothing, since
-/// the last bytes, of which there are up to two, have to fit.
+/// Decodes the next bytes of a body of base64 into an output, after what is left over. An output of fewer than two
+/// bytes gets nothing, since the last bytes, of which there are up to two, have to fit.
 fn write_base64(
     left_over: &mut LeftOver,
     tail: &[u8],

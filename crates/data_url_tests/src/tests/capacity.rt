@@ -30,8 +30,8 @@ fn assert_capacity_of_text(rt: &impl Abort, alloc: Global) -> Result<(), Fail> {
     Ok(())
 }
 
-/// A body of one stretch takes room for itself, and not for the fragment. For others, at most 64 KiB are taken first, or
-/// the bytes before the first tab, newline or `%` if these are more.
+/// A body of one stretch takes room for itself, and not for the fragment. For others, at most 64 KiB are taken first,
+/// or the bytes before the first tab, newline or `%` if these are more.
 #[test]
 fn capacity_is_that_of_the_body(rt: HostRuntime) -> Result<(), Fail> {
     let alloc = rt.alloc();

@@ -120,8 +120,8 @@ fn assert_two_gaps(rt: &impl Abort, alloc: Global, places: [usize; 2]) -> Result
     Ok(())
 }
 
-/// Asserts what the symbols decode to with a gap and a fault: the gap at the first of two places and the fault at the second,
-/// and the other way round.
+/// Asserts what the symbols decode to with a gap and a fault: the gap at the first of two places and the fault at the
+/// second, and the other way round.
 fn assert_faults(rt: &impl Abort, alloc: Global, places: [usize; 2]) -> Result<(), AllocError> {
     let [first, second] = places;
     for row in FAULTS.as_slice() {

@@ -96,7 +96,8 @@ fn assert_escape(
     Ok(())
 }
 
-/// Asserts the body of the symbols before a place, and the fragment after it. If a symbol is alone before it, the body is not valid.
+/// Asserts the body of the symbols before a place, and the fragment after it. If a symbol is alone before it, the body
+/// is not valid.
 fn assert_fragment(
     rt: &impl Abort,
     alloc: Global,
@@ -123,8 +124,8 @@ fn assert_fragment(
     Ok(())
 }
 
-/// Asserts the body of a URL of this many lines with each part, with each byte as an escape, and with a fragment, at each of these
-/// places.
+/// Asserts the body of a URL of this many lines with each part, with each byte as an escape, and with a fragment, at
+/// each of these places.
 fn assert_places(
     rt: &impl Abort,
     alloc: Global,

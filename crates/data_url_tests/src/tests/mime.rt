@@ -124,16 +124,16 @@ fn the_order_of_parameters_counts(rt: HostRuntime) -> Result<(), Fail> {
     Ok(())
 }
 
-/// Appends three parameters whose names end in these bytes and have one number, and then the same names in the other case.
-/// The search of a name among the first ones computes a number from its last three bytes, which is the same for `0k` as for
-/// `1a` after the same byte.
+/// Appends three parameters whose names end in these bytes and have one number, and then the same names in the other
+/// case. The search of a name among the first ones computes a number from its last three bytes, which is the same for
+/// `0k` as for `1a` after the same byte.
 fn write_twice(text: &mut String, number: u32) -> Result<(), AllocError> {
     write!(text, ";n{number}end=1;n{number}0k=2;n{number}1a=3")?;
     write!(text, ";N{number}END=4;N{number}1A=5;N{number}0K=6")
 }
 
-/// Returns a MIME type with parameters whose names come again in the other case: at once, and after all of them. Also returns
-/// it with the first parameter of each name alone.
+/// Returns a MIME type with parameters whose names come again in the other case: at once, and after all of them. Also
+/// returns it with the first parameter of each name alone.
 fn with_names_again(alloc: Global, count: u32) -> Result<[String; 2], AllocError> {
     let mut text = String::from_str(alloc, "x/x")?;
     let mut first = String::from_str(alloc, "x/x")?;

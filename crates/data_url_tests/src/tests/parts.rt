@@ -341,8 +341,8 @@ fn feed_in(
     })
 }
 
-/// Feeds the bytes of a text one by one, and an empty part before each and at the end, to an output with room for a group and its
-/// rest.
+/// Feeds the bytes of a text one by one, and an empty part before each and at the end, to an output with room for a
+/// group and its rest.
 #[test]
 fn empty_parts_and_many_padding_signs(rt: HostRuntime) -> Result<(), Fail> {
     let signs = "=".repeat(rt.alloc(), 258)?;

@@ -171,8 +171,8 @@ impl<'a> Source<'a> {
         }
     }
 
-    /// Returns the record of decoding, after asserting that it is the same for a closure that is dropped and for one that is
-    /// returned.
+    /// Returns the record of decoding, after asserting that it is the same for a closure that is dropped and for one
+    /// that is returned.
     pub fn record_both(
         &self,
         rt: &impl Abort,
@@ -233,8 +233,8 @@ impl<'a> Source<'a> {
         Ok(())
     }
 
-    /// Asserts the bytes and the result, and what an error of each of the first hundred calls does, one of the last call,
-    /// and one of the call after it.
+    /// Asserts the bytes and the result, and what an error of each of the first hundred calls does, one of the last
+    /// call, and one of the call after it.
     pub fn assert_is(
         &self,
         rt: &impl Abort,

@@ -26,8 +26,8 @@ fn assert_plain(rt: &impl Abort, alloc: Global, count: usize) -> Result<(), Fail
     Ok(())
 }
 
-/// Asserts the record of a URL whose header has to be encoded: `count` letters that are not ASCII are in its path, and as many
-/// in its query.
+/// Asserts the record of a URL whose header has to be encoded: `count` letters that are not ASCII are in its path, and
+/// as many in its query.
 fn assert_encoded_header(rt: &impl Abort, alloc: Global, count: usize) -> Result<(), Fail> {
     let letters = "\u{e9}".repeat(alloc, count)?;
     let encoded = "%C3%A9".repeat(alloc, count)?;
@@ -51,7 +51,8 @@ fn assert_base64(rt: &impl Abort, alloc: Global, count: usize) -> Result<(), Fai
     Ok(())
 }
 
-/// Asserts a MIME type with a value of `count` letters, and one with a type of `count` letters. Both are printed and cloned.
+/// Asserts a MIME type with a value of `count` letters, and one with a type of `count` letters. Both are printed and
+/// cloned.
 fn assert_mime(rt: &impl Abort, alloc: Global, count: usize) -> Result<(), Fail> {
     let letters = "d".repeat(alloc, count)?;
     let text = format!(in alloc; "a/b;c={letters}")?;

@@ -17,8 +17,8 @@ const NO_SCHEME: &str = "not a valid data url";
 /// The message for a text without a comma.
 const NO_COMMA: &str = "data url is missing comma delimiting attributes and body";
 
-/// Texts, their printed records, the bytes of their bodies before the first fault, and the message of the error, or `#` and
-/// the fragment, or nothing.
+/// Texts, their printed records, the bytes of their bodies before the first fault, and the message of the error, or `#`
+/// and the fragment, or nothing.
 const URLS: [[&str; 4]; 10] = [
     ["data:,Hello%20World!", DEFAULT, "Hello World!", ""],
     ["data:,a%41b\tc#d e", DEFAULT, "aAbc", "#d%20e"],

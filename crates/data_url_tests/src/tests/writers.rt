@@ -37,8 +37,8 @@ fn write_to<D: fmt::Display>(value: &D, left: usize) -> (bool, usize) {
     (is_written, writer.left)
 }
 
-/// Asserts how a value is printed, that options of the format change nothing, and that printing fails if any of its writes
-/// fails.
+/// Asserts how a value is printed, that options of the format change nothing, and that printing fails if any of its
+/// writes fails.
 fn assert_display<D: fmt::Display>(
     rt: &impl Abort,
     alloc: Global,

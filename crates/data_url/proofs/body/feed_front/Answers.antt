@@ -1,6 +1,6 @@
 use Rattle.std.{proofs.Common.{◌∙◌, ap, arith, sym, take}, proofs.lemmas.Result.{err_from_is_err_and}}
 use Rattle.std.{proofs.lemmas.List.{take_rest}, specs.Fn.{CalledAt}}
-use Rattle.data_url.specs.Steps.Window.{is_plain}
+use Rattle.data_url.specs.Steps.Window.{is_no_hash_or_percent}
 use Rattle.data_url.proofs.body.Decoding.{front_more, part_byte}
 use Rattle.data_url.proofs.forgiving_base64.{Holding.{reads_front, reads_none}, Steps.{sound}}
 use Rattle.data_url.proofs.body.feed_front.Goals as goal
@@ -28,7 +28,7 @@ returns-then-len-part-clause-fed g c =
     let is = ap (take c.min.result) (take_rest c.args.tail.now at) in
     let byte = part_byte c.args.tail.now at c.min.result n c.if-len-part.true is in (
       front_more (CalledAt g.F.FnMut) at c.min.result n is c.loop-place.invariant.front fed.0,
-      λ l. ap is_plain (sym byte) ∙ fed.1 c.if-len-part.true,
+      λ l. ap is_no_hash_or_percent (sym byte) ∙ fed.1 c.if-len-part.true,
     )
 
 pub loop-place-preserved : goal.loop-place-preserved

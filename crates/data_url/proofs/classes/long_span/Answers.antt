@@ -5,16 +5,16 @@ use Rattle.data_url.proofs.{classes.Rows.{all_marked, unmarked_passes}, texts.Co
 use Rattle.data_url.proofs.classes.long_span.Goals as goal
 
 -- a byte that the bits of the class do not mark is in the class
-unmarked : (c : goal.After-span) (b : ℕ) → b < 256 → is_marked c.match-class.others b ≡ false
+unmarked : (c : goal.After-span) (b : ℕ) → b < 256 → is_marked c.match-class.class_table b ≡ false
     → in_class c.args.class b ≡ true
 unfolding is_quotable_byte
 unmarked c = elim c.match-class.branch [
-  | goal.in-Quotable w ↦ rw (w.in-Quotable.is, w.others-is) (unmarked_passes _ is_quotable_byte refl)
-  | goal.in-Unquoted w ↦ rw (w.in-Unquoted.is, w.others-is) (unmarked_passes _ is_unquoted_byte refl)
-  | goal.in-PlainPath w ↦ rw (w.in-PlainPath.is, w.others-is) (unmarked_passes _ is_plain_path refl)
-  | goal.in-Path w ↦ rw (w.in-Path.is, w.others-is) (unmarked_passes _ is_no_question_mark refl)
-  | goal.in-Unescaped w ↦ rw (w.in-Unescaped.is, w.others-is) (unmarked_passes _ (λ b. not (is_escaped b)) refl)
-  | goal.in_default w ↦ rw w.others-is (all_marked _ _ refl)
+  | goal.in-Quotable w ↦ rw (w.in-Quotable.is, w.class_table-is) (unmarked_passes _ is_quotable_byte refl)
+  | goal.in-Unquoted w ↦ rw (w.in-Unquoted.is, w.class_table-is) (unmarked_passes _ is_unquoted_byte refl)
+  | goal.in-PlainPath w ↦ rw (w.in-PlainPath.is, w.class_table-is) (unmarked_passes _ is_plain_path refl)
+  | goal.in-Path w ↦ rw (w.in-Path.is, w.class_table-is) (unmarked_passes _ is_no_question_mark refl)
+  | goal.in-Unescaped w ↦ rw (w.in-Unescaped.is, w.class_table-is) (unmarked_passes _ (λ b. not (is_escaped b)) refl)
+  | goal.in_default w ↦ rw w.class_table-is (all_marked _ _ refl)
 ]
 
 pub returns-clause-prefix : goal.returns-clause-prefix

@@ -9,7 +9,8 @@ returns-then-kept-part-clause-written c =
     let text = c.args.bytes.now in
     let kept = c.split_at-2.result.0.now in
     let cut = c.split_at-2.ensures in
-    let as_is = kept_front p c.others.result text kept c.min-2.result c.rows_len.result c.others.ensures
+    let as_is = kept_front p c.unencoded_table.result text kept c.min-2.result c.rows_len.result
+    c.unencoded_table.ensures
     (λ i. omega (arith, c.type_inv.bytes i)) c.rows_len.ensures.within c.rows_len.ensures.prefix
     (cc (cut.front, cut.front_len)) (omega (arith, cut.front_len)) in
     cc (
@@ -28,8 +29,9 @@ returns-then-kept-part-clause-text c =
     let cut = c.split_at-2.ensures in
     let bytes : (i : ℕ) → get_or text i 0 < 256 = λ i. omega (arith, c.type_inv.bytes i) in
     let front : kept ≡ take (length kept) text = cc (cut.front, cut.front_len) in
-    let as_is = kept_front (in_set c.args.set) c.others.result text kept c.min-2.result c.rows_len.result
-    c.others.ensures bytes c.rows_len.ensures.within c.rows_len.ensures.prefix front (omega (arith, cut.front_len)) in
+    let as_is = kept_front (in_set c.args.set) c.unencoded_table.result text kept c.min-2.result c.rows_len.result
+    c.unencoded_table.ensures bytes c.rows_len.ensures.within c.rows_len.ensures.prefix front
+    (omega (arith, cut.front_len)) in
     let small = subst (λ x. (i : ℕ) → get_or x i 0 < 256) (sym front) (first_bytes text (length kept) bytes) in
     encoded_text c.args.set kept kept small as_is
 

@@ -4,4 +4,4 @@ use Rattle.data_url.proofs.percent.Encoding.{PutTo}
 use Rattle.data_url.proofs.percent.encode_next.Given as goal
 
 abbrev pub invariant-loop-byte : goal.invariant-loop-byte
-invariant-loop-byte l = PutTo (in_set l.set) l.part l.byte-index l.room l.at
+invariant-loop-byte l = PutTo (in_set l.set) l.part l.byte-index l.buffer l.at

@@ -2,4 +2,4 @@ use Rattle.data_url.proofs.classes.Rows.{unmarked_is}
 use Rattle.data_url.proofs.classes.lanes.is_unmarked.Goals as goal
 
 pub returns : goal.returns
-returns c = unmarked_is c.args.others.now c.args.block _ c.looked_up.ensures
+returns c = unmarked_is c.args.class_table.now c.args.block _ c.classified.ensures

@@ -20,5 +20,5 @@ returns-clause-packed c =
       some = omega (arith, c.if-used-lt-FEW.false);
       used_is = grind (arith, c.min-used.ensures, s.stops, zeros);
       short = omega (arith, c.pack_block.ensures.few);
-      room_is = c.pack_block.ensures.kept ∙ ap (λ (t : List ℕ). take c.args.len c.args.room.now ++ t) put;
+      buffer_is = c.pack_block.ensures.kept ∙ ap (λ (t : List ℕ). take c.args.len c.args.buffer.now ++ t) put;
     }

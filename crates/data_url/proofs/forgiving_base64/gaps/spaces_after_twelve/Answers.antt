@@ -23,7 +23,8 @@ returns-then-text-eq10-clause-spaces c =
     let text = c.args.text.now in
     let row = c.args.row in
     let bit = ap {B = ℕ} (λ b. cond b 1 0) (sym (get_or-map is_other row 13 0 false (omega (arith, c.fits-row.0))))
-    ∙ sym (bit_mask_l (map is_other row) 13) ∙ ap (λ n. n / 2 ^ 13 % 2) (sym c.others.ensures ∙ c.if-others.true) in
+    ∙ sym (bit_mask_l (map is_other row) 13) ∙ ap (λ n. n / 2 ^ 13 % 2)
+    (sym c.non_symbols.ensures ∙ c.if-non_symbols.true) in
     let next = get_or-drop 12 text 1 0
     ∙ sym (ap (λ t. get_or t 13 0) c.requires.1 ∙ get_or-take 16 text 13 0 (omega arith)) in
     sym (one_newline (drop 12 text) (omega (arith, length-drop 12 text, c.requires.0)) (get_or-drop 12 text 0 0

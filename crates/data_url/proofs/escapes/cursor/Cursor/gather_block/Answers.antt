@@ -5,7 +5,7 @@ use Rattle.data_url.proofs.escapes.cursor.Cursor.gather_block.Goals as goal
 pub returns-in_default-clause-gathered : goal.returns-in_default-clause-gathered
 returns-in_default-clause-gathered c =
     let i = c.loop-self.invariant in
-    let m = may_clear c.loop-self.self.block.seen i.1 c.loop-self-test.true (omega arith) (omega arith) in
+    let m = may_clear c.loop-self.self.block.end i.1 c.loop-self-test.true (omega arith) (omega arith) in
     record {
       gathers = grind (arith, gathers_then, gathers_clear);
       few = m.room.some;

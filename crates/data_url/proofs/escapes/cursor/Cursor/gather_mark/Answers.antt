@@ -2,13 +2,13 @@ use Rattle.std.proofs.Common.{arith, refl}
 use Rattle.data_url.proofs.escapes.{Reading.{spells_escape}, Walking.{ended_at, gathers_byte, gathers_then}}
 use Rattle.data_url.proofs.escapes.cursor.Cursor.gather_mark.Goals as goal
 
-pub returns-else-wide-clause-gathers : goal.returns-else-wide-clause-gathers
-returns-else-wide-clause-gathers c =
+pub returns-else-whole_blocks-clause-gathers : goal.returns-else-whole_blocks-clause-gathers
+returns-else-whole_blocks-clause-gathers c =
     gathers_then (gathers_byte (grind arith) (spells_escape c.in-Escape.ensures.found.1).reads (grind arith))
     c.gather_escapes-len.ensures.gathers
 
-pub returns-then-wide-clause-gathers : goal.returns-then-wide-clause-gathers
-returns-then-wide-clause-gathers c =
+pub returns-then-whole_blocks-clause-gathers : goal.returns-then-whole_blocks-clause-gathers
+returns-then-whole_blocks-clause-gathers c =
     gathers_byte (grind arith) (spells_escape c.in-Escape.ensures.found.1).reads (grind arith)
 
 pub returns-in-End-clause-goes : goal.returns-in-End-clause-goes

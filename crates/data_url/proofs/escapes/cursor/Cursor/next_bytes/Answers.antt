@@ -18,7 +18,7 @@ returns-in-Some-Slice-clause-gives c =
 pub returns-in-Some-Byte-clause-gives : goal.returns-in-Some-Byte-clause-gives
 returns-in-Some-Byte-clause-gives c =
     let goes = rw c.in-Some-Byte.field-0-is at c.in-Some-Byte.ensures.goes in
-    rw (take_more_set c.gather_within-len.new.room 0 c.in-Some-Byte.byte (omega (
+    rw (take_more_set c.gather_within-len.new.buffer 0 c.in-Some-Byte.byte (omega (
       arith,
       c.gather_within-len.array_long,
     )))

@@ -8,4 +8,4 @@ returns-clause-packed c =
     let cut = take-append-drop 64 rest in
     packs_front c.args.bytes (drop 64 rest) 0 (sym (append-nil c.args.bytes)) (sym c.fits-bytes.0) (cc)
     (omega arith) (λ some. absurd (omega (arith, some))) c.in_ok-used.ensures.packed (grind arith)
-    c.go_on_after.ensures.place c.told-room c.pack_to_stop.array_long c.requires.room
+    c.go_on_after.ensures.place c.told-buffer c.pack_to_stop.array_long c.requires.room

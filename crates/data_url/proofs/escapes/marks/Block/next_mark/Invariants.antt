@@ -8,7 +8,7 @@ invariant-loop-place l = record {
   looking : Looking l.source l.self l.place 0;
   at_end : l.from ≤ l.end → l.end ≤ l.place → Looking l.source l.self l.end 0;
   on : LooksOn l.fn.source l.source;
-  unseen : l.self.seen ≤ l.place;
+  unseen : l.self.end ≤ l.place;
   forward : l.from ≤ l.place;
   clear : IsClear l.fn.source.text.now l.from l.place;
 }

@@ -1,7 +1,8 @@
 use Rattle.std.{proofs.Common.{◌+◌, arith}, proofs.lemmas.Result.{err_from_is_err_and}, specs.Fn.{CalledAt}}
 use Rattle.std.proofs.{Common.{ap, get_or, inl, inr}, lemmas.Bool.{ne_eqb}}
-use Rattle.data_url.specs.{Decoder.{left_over, state_of}, Steps.Window.{is_plain}}
-use Rattle.data_url.proofs.forgiving_base64.Holding.{plain_after, plain_more, reads_fault, reads_front, reads_plain}
+use Rattle.data_url.specs.{Decoder.{left_over, state_of}, Steps.Window.{is_no_hash_or_percent}}
+use Rattle.data_url.proofs.forgiving_base64.Holding.{reads_fault, reads_front, reads_unescaped, unescaped_after}
+use Rattle.data_url.proofs.forgiving_base64.Holding.{unescaped_more}
 use Rattle.data_url.proofs.forgiving_base64.decode.Decoder.feed_unescaped.Goals as goal
 
 pub returns-in_err-place-clause-fed : goal.returns-in_err-place-clause-fed
@@ -12,7 +13,7 @@ returns-in_err-place-clause-fed g c =
       ended.at,
       record {
         within = ended.within;
-        plain = plain_after (left_over (state_of c.args.self.now)) _ ended.no_fault;
+        unescaped = unescaped_after (left_over (state_of c.args.self.now)) _ ended.no_fault;
         feeds = ended.feeds;
       },
     )
@@ -26,7 +27,7 @@ pub returns-then-byte-eq35-clause-fed : goal.returns-then-byte-eq35-clause-fed
 returns-then-byte-eq35-clause-fed g c =
     let read = c.in_ok-place.ensures.read in (
       reads_front (CalledAt g.F.FnMut) read.within read.reads,
-      λ l. elim c.then-byte-eq35.either [ inl e ↦ ap is_plain e | inr e ↦ ap is_plain e.1 ],
+      λ l. elim c.then-byte-eq35.either [ inl e ↦ ap is_no_hash_or_percent e | inr e ↦ ap is_no_hash_or_percent e.1 ],
     )
 
 pub returns-clause-fed : goal.returns-clause-fed
@@ -37,8 +38,8 @@ returns-clause-fed g c =
       c.in_ok-place.place + 1,
       record {
         within = omega (arith, read.ends.0);
-        plain = plain_more c.args.part.now c.in_ok-place.place read.ends.0
-            (reads_plain (CalledAt g.F.FnMut) read.reads)
+        unescaped = unescaped_more c.args.part.now c.in_ok-place.place read.ends.0
+            (reads_unescaped (CalledAt g.F.FnMut) read.reads)
             (cc (ne_eqb byte 35 c.if-byte-eq35.false, ne_eqb byte 37 c.if-byte-eq37.false));
         feeds = reads_fault (CalledAt g.F.FnMut) c.args.part.now c.in_ok-place.place read c.refuse.ensures.state;
       },

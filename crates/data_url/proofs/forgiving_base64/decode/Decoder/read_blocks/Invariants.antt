@@ -1,5 +1,5 @@
 use Rattle.std.{proofs.Common.{◌-◌, ◌≤◌, [], length, take}, specs.Fn.{CalledAt, always_mut}}
-use Rattle.data_url.specs.{Decoder.{state_of}, Steps.Holding.{IsBetweenGroups, Reads}}
+use Rattle.data_url.specs.{Decoder.{state_of}, Steps.Holding.{IsBetweenGroups, ReadsHolding}}
 use Rattle.data_url.proofs.forgiving_base64.decode.Decoder.read_blocks.Given as goal
 
 -- the closure was called with the bytes of all groups that were read
@@ -8,7 +8,7 @@ invariant-loop-at g l = record {
   callable : always_mut g.F.FnMut (state_of l.self).closure;
   between : IsBetweenGroups (state_of l.self);
   within : l.at ≤ length l.text;
-  reads : Reads (CalledAt g.F.FnMut) (state_of l.fn.self) (take l.at l.text) [] (state_of l.self);
+  reads : ReadsHolding (CalledAt g.F.FnMut) (state_of l.fn.self) (take l.at l.text) [] (state_of l.self);
 }
 
 abbrev pub decreases-loop-at : goal.decreases-loop-at

@@ -1,7 +1,7 @@
 use Rattle.std.proofs.Common.{refl}
 use Rattle.data_url.specs.Url.{in_fragment_set, in_path_set, in_query_set}
 use Rattle.data_url.proofs.percent.Encoding.{kept_where}
-use Rattle.data_url.proofs.percent.others.Goals as goal
+use Rattle.data_url.proofs.percent.unencoded_table.Goals as goal
 
 pub returns-in-Path : goal.returns-in-Path
 returns-in-Path c = rw c.in-Path.is (kept_where _ in_path_set refl)

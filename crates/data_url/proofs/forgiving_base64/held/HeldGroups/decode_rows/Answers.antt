@@ -3,7 +3,7 @@ use Rattle.std.{proofs.lemmas.List.{take_rest}, specs.{Char.{is_ascii_whitespace
 use Rattle.data_url.specs.Base64.{is_symbol}
 use Rattle.data_url.proofs.forgiving_base64.Groups.{leaves_all, leaves_read, row_leaves, row_leaves_at, row_long}
 use Rattle.data_url.proofs.{classes.Lookups.{all_in_rows}, forgiving_base64.Groups.{prefix_passes}}
-use Rattle.data_url.proofs.forgiving_base64.held.HeldGroups.fill_rows.Goals as goal
+use Rattle.data_url.proofs.forgiving_base64.held.HeldGroups.decode_rows.Goals as goal
 
 pub loop-at-init : goal.loop-at-init
 loop-at-init c = record {
@@ -92,10 +92,10 @@ returns-in_default c =
     let text = c.args.text.now in
     let read : length text - length (drop l.at text) ≡ l.at =
     omega (arith, length-drop l.at text, l.invariant.within) in
-    record { within = l.invariant.within; fills = rw (sym read) (leaves_read l.invariant.leaves).1 }
+    record { within = l.invariant.within; added = rw (sym read) (leaves_read l.invariant.leaves).1 }
 
-pub returns-clause-fills : goal.returns-clause-fills
-returns-clause-fills c =
+pub returns-clause-added : goal.returns-clause-added
+returns-clause-added c =
     let l = c.loop-at in
     let text = c.args.text.now in
     let read : length text - length (drop l.at text) ≡ l.at =

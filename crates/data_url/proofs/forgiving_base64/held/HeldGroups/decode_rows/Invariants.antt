@@ -1,7 +1,7 @@
 use Rattle.std.proofs.Common.{◌*◌, ◌+◌, ◌-◌, ◌≡◌, ◌≤◌, ◌%◌, ◌<◌, drop, length, take}
 use Rattle.data_url.specs.Steps.Groups.{held_bytes}
 use Rattle.data_url.proofs.forgiving_base64.Groups.{Leaves}
-use Rattle.data_url.proofs.forgiving_base64.held.HeldGroups.fill_rows.Given as goal
+use Rattle.data_url.proofs.forgiving_base64.held.HeldGroups.decode_rows.Given as goal
 
 -- the groups of the bytes before `at` are held, and there is room for those of the bytes before `end`
 abbrev pub invariant-loop-at : goal.invariant-loop-at

@@ -2,7 +2,7 @@ use Rattle.std.proofs.Common.{[], ◌+◌, ◌∙◌, append-nil, ap, arith, dro
 use Rattle.std.{proofs.Common.{take-append-drop}, proofs.lemmas.Result.{err_from_is_err_and}, specs.Fn.{CalledAt}}
 use Rattle.data_url.specs.{Decoder.{state_of}, Steps.Groups.{held_bytes}}
 use Rattle.data_url.proofs.forgiving_base64.Holding.{ends_within, held_len, reads_gained, reads_to}
-use Rattle.data_url.proofs.forgiving_base64.decode.Decoder.read.Goals as goal
+use Rattle.data_url.proofs.forgiving_base64.decode.Decoder.feed_until_fault.Goals as goal
 
 pub returns-in_err-flush-in-Err-clause-read : goal.returns-in_err-flush-in-Err-clause-read
 returns-in_err-flush-in-Err-clause-read g c =
@@ -28,7 +28,7 @@ returns-in-Err-clause-read g c =
 
 pub slice_bounds-flush-end : goal.slice_bounds-flush-end
 slice_bounds-flush-end g c =
-    let size = ap length c.as_slice-then-groups-ge-FULL.ensures ∙ held_len c.take_some.new.groups in
+    let size = ap length c.as_slice-then-groups-ge-FULL.ensures ∙ held_len c.read_groups_or_byte.new.groups in
     sym (length-take-le 192 _ (omega (arith, size)))
 
 pub flush-requires-then-groups-ge-FULL-clause-whole : goal.flush-requires-then-groups-ge-FULL-clause-whole
@@ -37,7 +37,7 @@ flush-requires-then-groups-ge-FULL-clause-whole g c = omega (arith, slice_bounds
 pub returns-in_err-flush-clause-read : goal.returns-in_err-flush-clause-read
 returns-in_err-flush-clause-read g c =
     let step = CalledAt g.F.FnMut in
-    let bytes = held_bytes c.take_some.new.groups in
+    let bytes = held_bytes c.read_groups_or_byte.new.groups in
     let reads = reads_gained step c.args.text.now c.loop-at.at c.in-Ok.taken c.loop-at.invariant.reads
     c.in-Ok.ensures in
     let flushed = rw c.as_slice-then-groups-ge-FULL.ensures at c.in_err-flush.ensures.flushed in
@@ -50,7 +50,7 @@ returns-in_err-flush-clause-read g c =
 pub loop-at-preserved-then-groups-ge-FULL : goal.loop-at-preserved-then-groups-ge-FULL
 loop-at-preserved-then-groups-ge-FULL g c =
     let step = CalledAt g.F.FnMut in
-    let held = c.take_some.new.groups in
+    let held = c.read_groups_or_byte.new.groups in
     let bytes = held_bytes held in
     let reads = reads_gained step c.args.text.now c.loop-at.at c.in-Ok.taken c.loop-at.invariant.reads
     c.in-Ok.ensures in
