@@ -371,8 +371,8 @@ fn write_inlined(
     all.extend_from_slice(b"]")
 }
 
-/// Writes the part of a page: its text, a resource in brackets, with its type and body, or a refused reference in parentheses,
-/// with the reason.
+/// Writes the part of a page: its text, a resource in brackets, with its type and body, or a refused reference in
+/// parentheses, with the reason.
 fn write_part(alloc: Global, all: &mut Vec<u8>, part: &Part) -> Result<(), AllocError> {
     match part {
         Part::Text(text) => all.extend_from_slice(text.as_bytes()),
