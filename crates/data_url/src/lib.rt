@@ -45,7 +45,8 @@ pub enum DataUrlError {
     NotADataUrl,
     /// There is no comma before the fragment (Fetch Standard, section 6).
     NoComma,
-    /// Allocation failed. Of `parts::read_header` also: the MIME type has 2 to the power of 63 bytes or more in parts.
+    /// Allocation failed. `parts::read_header` also returns it if the MIME type has 2 to the power of 63 bytes or more
+    /// in parts.
     OutOfMemory,
 }
 

@@ -107,7 +107,8 @@ pub enum MimeFromStrError {
     /// The text is not a MIME type
     /// ([MIME Sniffing Standard, section 4.4](https://mimesniff.spec.whatwg.org/#parsing-a-mime-type)).
     Parsing(MimeParsingError),
-    /// Allocation failed. Of `read_mime_type` also: the MIME type has 2 to the power of 63 bytes or more in parts.
+    /// Allocation failed. `read_mime_type` also returns it if the MIME type has 2 to the power of 63 bytes or more in
+    /// parts.
     OutOfMemory,
 }
 

@@ -78,7 +78,8 @@ pub(crate) fn show(status: u32, bytes: &[u8], out: &mut [u8]) -> DataUrlAnswer
 
 /// Returns the result for bytes that were written to the start of an output, if it has room for them.
 pub(crate) fn written(len: usize, out: &[u8]) -> DataUrlAnswer
-    ensures { (bytes old : List ℕ) → WritesIfFits bytes old out.now len → Shows 0 bytes old out.now result }
+    ensures { (bytes old : List ℕ) → WritesIfFits bytes old out.now len
+        → Shows 0 bytes old out.now result }
 {
     let status = if len > out.len() {
         OUTPUT_TOO_SMALL

@@ -55,7 +55,8 @@ pub(crate) fn refused(refusal: Refusal, out: &mut [u8]) -> DataUrlOpened
 #[inline(always)]
 fn tail_place(text: &str, tail: &[u8]) -> usize
     requires { tail_of text.now ≡ Some tail.now }
-    ensures { result ≡ length text.now - suffix_len is_c0_control_or_space text.now - length tail.now }
+    ensures { result
+        ≡ length text.now - suffix_len is_c0_control_or_space text.now - length tail.now }
 {
     text.len() - low_end_len(text.as_bytes()) - tail.len()
 }

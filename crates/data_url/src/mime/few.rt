@@ -101,7 +101,8 @@ impl<'a> FewParameters<'a> {
 fn is_same_name(one: &str, other: &str) -> bool
     requires one { IsTrue (is_token_text (chars one.now)) }
     requires other { IsTrue (is_token_text (chars other.now)) }
-    ensures { result ≡ bytes_eq (map to_ascii_lowercase (chars one.now)) (map to_ascii_lowercase (chars other.now)) }
+    ensures { result ≡ bytes_eq (map to_ascii_lowercase (chars one.now))
+        (map to_ascii_lowercase (chars other.now)) }
 {
     one.eq_ignore_ascii_case(other)
 }
