@@ -25,7 +25,7 @@ static bytes text(const void *text, size_t len) { return len == 0 ? &nothing : (
 
 static uint8_t *output(void *out, size_t room) { return room == 0 ? &nothing : (uint8_t *)out; }
 
-/* States with more symbols left over than three, which no call returned. A call that refuses a state writes nothing
+/* States with more symbols left over than three, which the calls refuse. A call that refuses a state writes nothing
  * to it. */
 static const struct data_url_body_state bad_body = {0, {0, 0, 0}, 255, 0, 0};
 static const struct data_url_base64_state bad_base64 = {{0, 0, 0}, 255, 0};

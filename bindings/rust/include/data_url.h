@@ -220,7 +220,7 @@ enum data_url_status {
     DATA_URL_BASE64_SYMBOL_AFTER_PADDING = 10,
     /* There are more bytes: call again. */
     DATA_URL_MORE = 11,
-    /* The state is null or one that no call returned, or its text has ended. Nothing was done. */
+    /* The state is null or cannot be right, or its text has ended. Nothing was done. */
     DATA_URL_BAD_STATE = 12,
     /* Base64 with a byte that is neither whitespace nor '=' nor a symbol: this plus the byte, 256 to 511. */
     DATA_URL_BASE64_UNEXPECTED_SYMBOL = 256

@@ -230,8 +230,8 @@ fn first_len(tail: &[u8]) -> usize {
     FIRST_CAPACITY
 }
 
-/// Gives back room that was allocated for a fragment, if there is one. It does so if less than half of the room is used
-/// and that half is more than 4 KiB, or if no byte of the body's text is marked.
+/// Gives back room that was allocated for a fragment, if there is one. It does so if the body takes less than half of
+/// the room, and half of the room is more than 4 KiB, or if no byte of the body's text is marked.
 fn shrink(tail: &[u8], body: &mut Vec<u8>, place: usize)
     ensures { body.new.items ≡ body.old.items }
 {

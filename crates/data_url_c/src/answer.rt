@@ -61,7 +61,8 @@ pub struct DataUrlStep {
     pub len: usize,
 }
 
-/// Writes bytes to the start of the output and returns their status, or returns that the output is too small for them.
+/// Writes bytes to the start of the output, and returns the given status and their number. If the output is too small
+/// for them, returns that, and how many there are.
 pub(crate) fn show(status: u32, bytes: &[u8], out: &mut [u8]) -> DataUrlAnswer
     ensures { Shows status bytes.now out.old out.new result }
 {

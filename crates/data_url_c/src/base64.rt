@@ -74,7 +74,7 @@ pub(crate) const SPENT: DataUrlBase64 = DataUrlBase64 {
     padding: 0,
 };
 
-/// Returns what is left over in a state, if a call can have returned the state.
+/// Returns what is left over in a state, if the state is good.
 pub(crate) fn left_over_in(state: &DataUrlBase64) -> Option<LeftOver>
     ensures { MatchOption result (is_good_state state.now ≡ false) (HoldsLeft state.now) }
 {

@@ -126,7 +126,7 @@ pub struct DataUrlBody {
     pub is_base64: u8,
 }
 
-/// Returns the body that goes on where a state says, if a call can have returned the state.
+/// Returns the body that goes on where a state says, if the state is good.
 fn body_of<'a>(state: &DataUrlBody, tail: &'a [u8]) -> Option<Body<'a>>
     ensures { MatchOption result (IsGoodBody tail.entry.now state.now → ⊥)
         (IsBodyOf tail.entry.now state.now) }

@@ -28,7 +28,7 @@ fn encoded_fragment_of(alloc: Global, url: &DataUrl) -> Result<Vec<u8>, Refusal>
     }
 }
 
-/// The encoded fragment of the URL of a text.
+/// Returns the encoded fragment of the URL that bytes are.
 pub(crate) fn fragment(alloc: Global, url: &[u8]) -> Result<Vec<u8>, Refusal>
     ensures { GivesFragment url.now result }
 {

@@ -19,7 +19,7 @@
 //! | 10 | base64 with a symbol after padding | the same |
 //! | 256 and a byte | base64 with that unexpected byte | the same |
 //! | 11 | the body or fragment goes on (from `_next`) | of the part that was written |
-//! | 12 | a state that no call returned | 0 |
+//! | 12 | a state that is not good, or whose text has ended | 0 |
 //!
 //! The output after the bytes of a result is unchanged; if the length is 0, all of it is.
 //!

@@ -19,7 +19,7 @@ pub(crate) fn printed_of(alloc: Global, mime: &Mime) -> Result<Vec<u8>, Refusal>
     }
 }
 
-/// The printed MIME type of the URL of a text.
+/// Returns the printed MIME type of the URL that bytes are.
 pub(crate) fn mime(alloc: Global, url: &[u8]) -> Result<Vec<u8>, Refusal>
     ensures { GivesMime url.now result }
 {
@@ -29,7 +29,7 @@ pub(crate) fn mime(alloc: Global, url: &[u8]) -> Result<Vec<u8>, Refusal>
     }
 }
 
-/// The printed text of a MIME type.
+/// Returns the printed text of the MIME type that bytes are.
 pub(crate) fn type_(alloc: Global, text: &[u8]) -> Result<Vec<u8>, Refusal>
     ensures { GivesType text.now result }
 {

@@ -1,4 +1,4 @@
-//! The statuses.
+//! The statuses that calls return. The comment of `lib.rt` has a table of them.
 
 ghost use Rattle.std.specs.Prelude.{◌≡◌};
 ghost use Rattle.data_url_c.specs.Answers.{status_of_kind};
@@ -42,7 +42,7 @@ const SYMBOL_AFTER_PADDING: u32 = 10;
 /// A body or a fragment goes on.
 pub(crate) const MORE: u32 = 11;
 
-/// No call returned the state.
+/// The state is not good, or its text has ended.
 pub(crate) const BAD_STATE: u32 = 12;
 
 /// Base64 with a byte that is not allowed: this and the byte.

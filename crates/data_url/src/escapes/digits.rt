@@ -40,8 +40,8 @@ fn digit_code(byte: u8) -> u8
 
 impl<'a> Source<'a> {
     /// Returns the value of the escape whose `%` is at a place, and the place after the escape. Tabs and newlines in it
-    /// are skipped. `two_follow` says that at least two bytes follow the `%`. Then the end of the text is not tested
-    /// for before a digit that comes at once, which is faster.
+    /// are skipped. `two_follow` says that at least two bytes follow the `%`. Then no test for the end of the text
+    /// precedes a digit that follows at once, which is faster.
     #[inline(always)]
     pub(super) fn escape(&mut self, place: usize, two_follow: bool) -> Option<(u8, usize)>
         requires within { place < length self.old.text.now }

@@ -1,12 +1,12 @@
 //! MIME types in parts: each text after its length.
 
-ghost use Rattle.std.specs.Prelude.{◌≡◌, ◌+◌, ◌<◌, IfErr, IfOk, IsTrue, List, encode_utf8_all, false, length, map};
+ghost use Rattle.std.specs.Prelude.{◌≡◌, ◌+◌, ◌<◌, IsTrue, encode_utf8_all, false, length, map};
 ghost use Rattle.std.specs.{Char.{to_ascii_lowercase}, Int.{to_le_bytes, w64}, List.{flat_map}, Str.{chars}};
 ghost use Rattle.data_url.specs.Mime.{BeginsParameters, IsRecordOfParts, default_record, is_token_text};
 ghost use Rattle.data_url.specs.Parts.{ReadsMimeType, WritesIfFits, part, parts_of, parts_of_pair};
 ghost use Rattle.data_url.specs.{MimeType.{pair_of}, Steps.Parsing.{unescaped}};
 ghost use Rattle.data_url.specs.Steps.Few.{AreAllTokens, sliced_pair, value_text};
-ghost use Rattle.data_url.specs.Steps.MimeParts.{Adds, HasTokens, Puts, WritesParts, WritesRecord, head_record};
+ghost use Rattle.data_url.specs.Steps.MimeParts.{HasTokens, Puts, WritesParts, WritesRecord, head_record};
 ghost use Rattle.data_url.specs.Steps.MimeParts.{pairs_in};
 
 use super::few::{FewParameters, NameAndValue};
@@ -38,7 +38,7 @@ fn put(output: &mut [u8], at: usize, bytes: &[u8]) -> usize
     end
 }
 
-/// Puts a length, as eight bytes, the lowest first.
+/// Puts a length, as eight bytes, the lowest first. They are stored at once, where `put` would copy them.
 #[inline(always)]
 fn put_length(output: &mut [u8], at: usize, len: usize) -> usize
     ensures { Puts (to_le_bytes w64 len) output.old at output.new result }
@@ -61,7 +61,7 @@ fn put_text(output: &mut [u8], at: usize, text: &str) -> usize
 
 /// Puts bytes in ASCII lower case.
 #[inline(always)]
-fn put_lower(output: &mut [u8], at: usize, bytes: &[u8]) -> usize
+fn put_lowercase_bytes(output: &mut [u8], at: usize, bytes: &[u8]) -> usize
     ensures { Puts (map to_ascii_lowercase bytes.now) output.old at output.new result }
 {
     let end = at.saturating_add(bytes.len());
@@ -79,7 +79,7 @@ fn put_lowercase(output: &mut [u8], at: usize, text: &str) -> usize
         output.new result }
 {
     let at = put_length(output, at, text.len());
-    put_lower(output, at, text.as_bytes())
+    put_lowercase_bytes(output, at, text.as_bytes())
 }
 
 /// Puts the text of a quoted string without the `\` before a code point.
@@ -180,8 +180,8 @@ impl<'a> Head<'a> {
         }
     }
 
-    /// Writes the record of a MIME type with these parts and parameters, in parts, to the start of an output that has
-    /// room for it. Returns how many bytes it has, or an error if they are more than `LONGEST`.
+    /// Writes the record of a MIME type with these parts and parameters, in parts, to the start of an output, if it
+    /// has room. Returns how many bytes the record has, or an error if they are more than `LONGEST`.
     fn write_with(&self, parameters: Parameters<'_>, output: &mut [u8]) -> Result<usize, AllocError>
         requires type_ { IsTrue (is_token_text (chars self.now.type_.now)) }
         requires subtype { IsTrue (is_token_text (chars self.now.subtype.now)) }
@@ -199,8 +199,8 @@ impl<'a> Head<'a> {
         Ok(len)
     }
 
-    /// Writes the record of a MIME type with these parts, in parts, to the start of an output that has room for it.
-    /// Returns how many bytes it has. Allocates only if many parameters are kept.
+    /// Writes the record of a MIME type with these parts, in parts, to the start of an output, if it has room.
+    /// Returns how many bytes the record has. Allocates only if many parameters are kept.
     pub(crate) fn write(&self, alloc: Global, output: &mut [u8]) -> Result<usize, AllocError>
         requires type_ { IsTrue (is_token_text (chars self.now.type_.now)) }
         requires subtype { IsTrue (is_token_text (chars self.now.subtype.now)) }
@@ -236,8 +236,8 @@ impl<'a> Head<'a> {
     }
 }
 
-/// Writes the record of a URL without a MIME type, in parts, to the start of an output that has room for it. Returns
-/// how many bytes it has.
+/// Writes the record of a URL without a MIME type, in parts, to the start of an output, if it has room. Returns how
+/// many bytes the record has.
 pub(crate) fn write_default(output: &mut [u8]) -> usize
     ensures { WritesIfFits (parts_of default_record) output.old output.new result }
 {

@@ -1,7 +1,7 @@
 //! Types and names in ASCII lower case.
 #![tactic(auto, using(crate::proofs::mime::FirstNames::lower_chars))]
 
-ghost use Rattle.std.specs.Prelude.{◌≡◌, ◌<◌, ◌≤◌, IfOk, IsTrue, length, map};
+ghost use Rattle.std.specs.Prelude.{◌≡◌, IfOk, IsTrue, length, map};
 ghost use Rattle.std.specs.{Char.{to_ascii_lowercase}, Str.{chars}};
 ghost use Rattle.data_url.specs.{Mime.{is_token_text}, MimeType.{code_points}};
 
@@ -11,7 +11,7 @@ use std::simd::prelude::*;
 /// How many bytes are put into lower case at once.
 const WORD: usize = 4;
 
-/// Returns a text of token code points in ASCII lower case.
+/// Returns a text of token code points in ASCII lower case, or an error if allocation fails.
 pub(super) fn lowercased(alloc: Global, text: &str) -> Result<String, AllocError>
     requires { IsTrue (is_token_text (chars text.now)) }
     ensures { IfOk result (λ lower. code_points lower ≡ map to_ascii_lowercase (chars text.now)) }
@@ -21,8 +21,8 @@ pub(super) fn lowercased(alloc: Global, text: &str) -> Result<String, AllocError
     Ok(lower)
 }
 
-/// Copies bytes in ASCII lower case to an output that is as long. If they are no whole words, the last word begins
-/// before the end of those that were copied: two words that overlap are faster than single bytes.
+/// Copies bytes, in ASCII lower case, to an output of the same length. The last word may overlap the one before it,
+/// which is faster than to copy the last bytes one by one.
 #[inline(always)]
 pub(super) fn copy_lowercase(bytes: &[u8], output: &mut [u8])
     requires { length output.old ≡ length bytes.now }
@@ -41,7 +41,7 @@ pub(super) fn copy_lowercase(bytes: &[u8], output: &mut [u8])
     }
 }
 
-/// Copies fewer bytes than a word has in ASCII lower case, one by one.
+/// Copies bytes one by one, in ASCII lower case. It is used for fewer bytes than a word has.
 #[inline(always)]
 fn copy_short(bytes: &[u8], output: &mut [u8])
     requires { length output.old ≡ length bytes.now }

@@ -1,12 +1,12 @@
 //! Reads a MIME type (MIME Sniffing Standard, section 4.4).
 
-ghost use Rattle.std.specs.Prelude.{◌≡◌, ◌≢◌, ◌<◌, ◌++◌, List, MatchOption, IfOk, IsTrue, OnOk, codes, drop, false};
-ghost use Rattle.std.specs.Prelude.{length, map, slice_index, suc, take, true};
+ghost use Rattle.std.specs.Prelude.{◌≡◌, ◌<◌, ◌++◌, List, MatchOption, IfOk, IsTrue, OnOk, codes, drop, false};
+ghost use Rattle.std.specs.Prelude.{map, suc, take, true};
 ghost use Rattle.std.specs.Str.{chars};
 ghost use Rattle.data_url.specs.Mime.{BeginsParameters, IsHead, Item, Items, is_token_text, kept_pairs, valid_of};
 ghost use Rattle.data_url.specs.Mime.{IsRecordOfParts};
 ghost use Rattle.data_url.specs.Url.{without_start};
-ghost use Rattle.data_url.specs.Steps.Parsing.{HasNoHead, Quoting, given_reading, in_value, item_in, pair_in};
+ghost use Rattle.data_url.specs.Steps.Parsing.{HasNoHead, given_reading, in_value, item_in, pair_in};
 ghost use Rattle.data_url.specs.Steps.Parsing.{plain_reading, quotable_value, quoted_len, reading_in, unescaped};
 ghost use Rattle.data_url.specs.Steps.Parsing.{unless_named, value_of};
 ghost use Rattle.data_url.specs.{Steps.Kept.{IsIndexed, pairs_of}, MimeType.{pair_of, record_of}};
