@@ -20,6 +20,9 @@ use std::mem::replace;
 /// How many bytes the buffer holds in which short stretches and values of escapes are gathered.
 pub(crate) const BUFFER_LEN: usize = 512;
 
+/// With this many marks in a block, escapes are likely to follow one another: a block of escapes alone has 21 or 22.
+const DENSE: u32 = 18;
+
 /// The buffer itself.
 pub(super) type Buffer = [u8; BUFFER_LEN];
 
@@ -133,7 +136,8 @@ impl<'a> Cursor<'a> {
         if len == 0 && self.block.marks == 0 {
             return None;
         }
-        let whole_blocks = self.source.len() - self.block.end >= BLOCK;
+        let whole_blocks = self.source.len() - self.block.end >= BLOCK
+            && self.block.marks.count_ones() < DENSE;
         Some(if whole_blocks {
             self.gather_block(buffer, len, true)
         } else {
