@@ -32,5 +32,5 @@ pub use Rattle.data_url.proofs.texts.Bytes.{without_tabs_and_newlines-append}
 -- Words of the lemmas above
 pub use Rattle.data_url.specs.Steps.Split.{HasNoScheme, IsHeaderAndTail, IsSchemeAndRest}
 unfoldable pub use Rattle.data_url.specs.Steps.Header.{header_text}
-pub use Rattle.data_url.specs.Steps.Split.{is_plain_path}
+pub use Rattle.data_url.specs.Steps.Split.{is_unencoded_path}
 pub use Rattle.data_url.specs.Steps.Whole.{DecodesText}

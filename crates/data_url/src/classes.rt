@@ -20,7 +20,7 @@ pub(crate) enum Class {
     Unquoted,
     /// The bytes of a path that are serialised as they are and end neither the path nor the header: printable ASCII
     /// and spaces, except `#`, `,` and `?`.
-    PlainPath,
+    UnencodedPath,
     /// HTTP whitespace (Fetch Standard, section 2.2).
     Whitespace,
     /// The bytes before which no `\` is written in a quoted string.
@@ -67,7 +67,7 @@ pub(crate) fn has(class: Class, byte: u8) -> bool
         Class::Token => 1,
         Class::Quotable => 2,
         Class::Unquoted => 4,
-        Class::PlainPath => 8,
+        Class::UnencodedPath => 8,
         Class::Whitespace => 16,
         Class::Unescaped => 32,
         Class::Control => return byte <= b' ',
@@ -114,7 +114,7 @@ pub(crate) fn long_span(class: Class, bytes: &[u8]) -> usize
         Class::Unquoted => [
             129, 129, 129, 129, 129, 129, 129, 129, 129, 129, 129, 133, 129, 129, 129, 193,
         ],
-        Class::PlainPath => [
+        Class::UnencodedPath => [
             129, 129, 129, 131, 129, 129, 129, 129, 129, 129, 129, 129, 131, 129, 129, 197,
         ],
         Class::Path => [0, 0, 0, 0, 0, 0, 0, 0, 0, 0, 0, 0, 0, 0, 0, 4],

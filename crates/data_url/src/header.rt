@@ -11,7 +11,7 @@ ghost use Rattle.data_url.specs.Steps.Header.{encoded_parts, header_text};
 ghost use Rattle.data_url.specs.MimeType.{as_option, record_of};
 
 use crate::classes::{Class, end_span, long_span};
-use crate::mime::{Head, Mime, plain_head, read_head, write_default};
+use crate::mime::{Head, Mime, read_head, text_plain_head, write_default};
 use crate::percent::{EncodeSet, PART, push_encoded};
 use crate::split::trim;
 use std::alloc::{AllocError, Global};
@@ -86,12 +86,12 @@ fn without_suffix(header: &str) -> Option<&str>
 pub(crate) fn serialise(
     alloc: Global,
     header: &str,
-    is_plain: bool,
+    is_serialised: bool,
 ) -> Result<Option<String>, AllocError>
-    requires { is_plain ≡ true → header_text (without_tabs_and_newlines header.now) ≡ header.now }
+    requires { is_serialised ≡ true → header_text (without_tabs_and_newlines header.now) ≡ header.now }
     ensures { IfOk result (IsSerialised header.now) }
 {
-    if is_plain {
+    if is_serialised {
         return Ok(None);
     }
     Ok(Some(serialised(alloc, header.as_bytes())?))
@@ -133,7 +133,7 @@ fn media_head(media: &str) -> Option<Head<'_>>
         (chars h.parameters.now)) }
 {
     if media.as_bytes().starts_with(b";") {
-        return Some(plain_head(media));
+        return Some(text_plain_head(media));
     }
     read_head(media)
 }

@@ -86,7 +86,7 @@ impl<'a> DataUrl<'a> {
         let Some(split) = split_at_comma(rest) else {
             return Err(DataUrlError::NoComma);
         };
-        let Ok(text) = serialise(alloc, split.header, split.is_plain) else {
+        let Ok(text) = serialise(alloc, split.header, split.is_serialised) else {
             return Err(DataUrlError::OutOfMemory);
         };
         let (media, base64) = split_suffix(serialised_text(&text, split.header));

@@ -6,17 +6,17 @@ mod cuts;
 mod few;
 mod in_parts;
 mod kept;
-mod line;
 mod lower;
 mod parse;
 mod print;
+mod print_buffer;
 mod values;
 
 pub use in_parts::read_mime_type;
 pub(crate) use in_parts::write_default;
-use line::Line;
-pub(crate) use parse::{Head, plain_head, read_head};
+pub(crate) use parse::{Head, read_head, text_plain_head};
 use print::push_parameter;
+use print_buffer::PrintBuffer;
 use std::alloc::{AllocError, Global};
 use std::error::Error;
 use std::fmt;
@@ -72,14 +72,14 @@ impl fmt::Display for Mime {
     ghost styled_output = { λ mime spec. Some (encode_utf8_all (printed (record_of mime))) };
 
     fn fmt<W: fmt::Write>(&self, f: &mut fmt::Formatter<W>) -> fmt::Result {
-        let mut line = Line::new();
-        line.push(f, &self.type_)?;
-        line.push(f, "/")?;
-        line.push(f, &self.subtype)?;
+        let mut buffer = PrintBuffer::new();
+        buffer.push(f, &self.type_)?;
+        buffer.push(f, "/")?;
+        buffer.push(f, &self.subtype)?;
         for (name, value) in &self.parameters {
-            push_parameter(&mut line, f, name, value)?;
+            push_parameter(&mut buffer, f, name, value)?;
         }
-        line.flush(f)
+        buffer.flush(f)
     }
 }
 

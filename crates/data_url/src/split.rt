@@ -60,26 +60,26 @@ pub(crate) struct Split<'a> {
     /// The text after it.
     pub(crate) tail: &'a str,
     /// Whether the header is known to be serialised as it is.
-    pub(crate) is_plain: bool,
+    pub(crate) is_serialised: bool,
 }
 
 /// The text cut at its first comma, unless a `#` comes before it.
 #[tactic(auto, using(crate::proofs::split::Cuts::commas))]
 pub(crate) fn split_at_comma(text: &str) -> Option<Split<'_>>
     ensures found { IfSome result (λ f. IsHeaderAndTail text.now f.header.now f.tail.now) }
-    ensures plain { IfSome result (λ f. f.is_plain ≡ true
+    ensures serialised { IfSome result (λ f. f.is_serialised ≡ true
         → header_text (without_tabs_and_newlines f.header.now) ≡ f.header.now) }
     ensures none { IfNone result (after comma (front text.now) ≡ None) }
 {
     let bytes = text.as_bytes();
-    let plain = long_span(Class::PlainPath, bytes);
-    let place = plain + span(Class::Header, &bytes[plain..]);
+    let unencoded = long_span(Class::UnencodedPath, bytes);
+    let place = unencoded + span(Class::Header, &bytes[unencoded..]);
     if place == bytes.len() || bytes[place] == b'#' {
         return None;
     }
     Some(Split {
         header: &text[..place],
         tail: &text[place + 1..],
-        is_plain: place == plain,
+        is_serialised: place == unencoded,
     })
 }

@@ -7,7 +7,7 @@ use Rattle.std.proofs.lemmas.{Bool.{cases_Bool}, List.{drop-append-le, drop_all,
 use Rattle.std.proofs.lemmas.List.{length-map, Folds.{prefix_len-append}, Sums.{prefix_len-le-length}}
 use Rattle.std.specs.{Char.{to_ascii_lowercase}, Prelude.{◌&&◌, ◌||◌, not}, List.{list_all, suffix_len}}
 use Rattle.data_url.specs.Fetch.{before_base64, has_base64_suffix, is_space, stripped_header}
-use Rattle.data_url.specs.{Steps.{Header.{header_text}, Split.{is_plain_path}}, Url.{encoded_byte, hex_digit}}
+use Rattle.data_url.specs.{Steps.{Header.{header_text}, Split.{is_unencoded_path}}, Url.{encoded_byte, hex_digit}}
 use Rattle.data_url.specs.Url.{in_path_set, in_query_set, is_tab_or_newline, percent_encoding, without_start}
 use Rattle.data_url.specs.Url.{without_tabs_and_newlines}
 use Rattle.data_url.proofs.{split.Cuts.{cut_at}, header.Serialising.{before_last_after, last_after, no_word}}
@@ -18,7 +18,7 @@ use Rattle.data_url.proofs.texts.Bytes.{dropped_nil, without_tabs_and_newlines-a
 
 -- a byte that is serialised as it is in a path and in a query, also at the end
 abbrev is_kept : ℕ → Bool
-is_kept b = is_plain_path b && not ((b == 32) || ((b == 34) || ((b == 60) || (b == 62))))
+is_kept b = is_unencoded_path b && not ((b == 32) || ((b == 34) || ((b == 60) || (b == 62))))
 
 -- it is so at each place of a header
 kept_byte : (path : List ℕ) (query : Option (List ℕ)) (b : ℕ) → is_kept b ≡ true
@@ -144,7 +144,7 @@ flag_encoded header last n high four =
 
 -- a header has no base64 suffix if its last byte is one of a path, and is neither '4' nor a space
 pub flag_false : (header : List ℕ) (last : ℕ) → length header ≡ last + 1 → get_or header last 0 ≢ 52
-    → is_plain_path (get_or header last 0) ≡ true → (get_or header last 0 == 32) ≡ false
+    → is_unencoded_path (get_or header last 0) ≡ true → (get_or header last 0 == 32) ≡ false
     → false ≡ has_base64_suffix (header_text (without_tabs_and_newlines header))
 flag_false header last n ne h space =
     let c = get_or header last 0 in

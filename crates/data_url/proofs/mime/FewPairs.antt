@@ -5,7 +5,7 @@ use Rattle.std.proofs.lemmas.{List.{length-map, length-set, map-append, take_mor
 use Rattle.std.proofs.lemmas.Slice.Eq.{bytes_eq-Decides}
 use Rattle.std.specs.{Char.{to_ascii_lowercase}, Str.{IsUtf8, bytes_eq, chars}}
 use Rattle.data_url.specs.Mime.{Pair, has_name, is_token_text}
-use Rattle.data_url.specs.Steps.Few.{AreTokens, kept_of, sliced_pair, pairs_of, value_text}
+use Rattle.data_url.specs.Steps.Few.{AreTokens, kept_of, sliced_pair, sliced_pairs, value_text}
 use Rattle.data_url.specs.Steps.Parsing.{pair_if, unless_named, value_of}
 use Rattle.data_url.specs.declared.mime.few.FewParameters.{FewParameters}
 use Rattle.data_url.specs.declared.mime.few.NameAndValue.{NameAndValue}
@@ -28,27 +28,27 @@ no_pair_added pairs n (Some v) h = grind (arith, append-nil)
 
 -- with eight pairs, a pair with a new name and a value is one too many
 pub no_room : (few : FewParameters) (n v : List ℕ) (o : Option (List ℕ)) → AreTokens few → few.len ≡ 8
-    → is_token_text n ≡ true → has_name (map to_ascii_lowercase n) (pairs_of few) ≡ false → o ≡ Some v
-    → 8 < length (pairs_of few ++ unless_named (pairs_of few) (pair_if (map to_ascii_lowercase n) o))
+    → is_token_text n ≡ true → has_name (map to_ascii_lowercase n) (sliced_pairs few) ≡ false → o ≡ Some v
+    → 8 < length (sliced_pairs few ++ unless_named (sliced_pairs few) (pair_if (map to_ascii_lowercase n) o))
 no_room few n v o x l t h e =
     let one : Pair = (map to_ascii_lowercase n, v) in
-    let pair : unless_named (pairs_of few) (pair_if (map to_ascii_lowercase n) o) ≡ one ∷ [] =
+    let pair : unless_named (sliced_pairs few) (pair_if (map to_ascii_lowercase n) o) ≡ one ∷ [] =
     grind (arith, token_text_lower) in
-    let kept : length (pairs_of few) ≡ 8 =
+    let kept : length (sliced_pairs few) ≡ 8 =
     length-map (kept_of few) (λ s. sliced_pair s) ∙ length-take-le few.len few.slices (omega (arith, x.room, l)) ∙ l in
-    rw pair (omega (arith, kept, length-append (pairs_of few) (one ∷ [])))
+    rw pair (omega (arith, kept, length-append (sliced_pairs few) (one ∷ [])))
 
 -- a pair with a new name and a value is added, if there is room for it
 pub one_pair_added : (few few' : FewParameters) (s : NameAndValue) → AreTokens few → few.len < 8
     → is_token_text (chars s.name.now) ≡ true
-    → has_name (map to_ascii_lowercase (chars s.name.now)) (pairs_of few) ≡ false
+    → has_name (map to_ascii_lowercase (chars s.name.now)) (sliced_pairs few) ≡ false
     → value_of s.value ≡ Some (value_text s.value)
     → few'.slices ≡ set few.slices few.len s → few'.len ≡ few.len + 1
-    → (pairs_of few' ≡ pairs_of few ++ unless_named (pairs_of few)
+    → (sliced_pairs few' ≡ sliced_pairs few ++ unless_named (sliced_pairs few)
     (pair_if (map to_ascii_lowercase (chars s.name.now)) (value_of s.value))) × AreTokens few'
 one_pair_added few few' s x l t h v e f =
     let kept : kept_of few' ≡ kept_of few ++ (s ∷ []) = grind (arith, take_more_set, x.room) in
-    let pairs : pairs_of few' ≡ pairs_of few ++ (sliced_pair s ∷ []) =
+    let pairs : sliced_pairs few' ≡ sliced_pairs few ++ (sliced_pair s ∷ []) =
     ap (map (λ s. sliced_pair s)) kept ∙ map-append (λ s. sliced_pair s) (kept_of few) (s ∷ []) in
     let pair : pair_if (map to_ascii_lowercase (chars s.name.now)) (value_of s.value) ≡ sliced_pair s ∷ [] =
     grind (arith, token_text_lower) in (

@@ -6,7 +6,7 @@ use Rattle.std.{proofs.lemmas.Bool.{cases_Bool, not-false}, specs.List.{prefix_l
 use Rattle.data_url.specs.{CodePoints.{is_http_whitespace, is_token}, Mime.{BeginsParameters, DoesNotBegin, Every}}
 use Rattle.data_url.specs.Mime.{GivesValue, IsParameter, Item, Items, is_quote, lone_equals, nothing, plain, quoted}
 use Rattle.data_url.specs.{Mime.{unclosed, unless_empty, IsHead}, Steps.Parsing.{Reading, after_char, front_of}}
-use Rattle.data_url.specs.Steps.Parsing.{given_reading, in_name, in_value, item_in, named, plain_reading}
+use Rattle.data_url.specs.Steps.Parsing.{given_reading, in_name, in_value, item_in, named, unquoted_reading}
 use Rattle.data_url.specs.{Steps.Parsing.{quoted_reading, reading, reading_in}, Url.{without_end, without_start}}
 use Rattle.data_url.proofs.{facts.Definitions.{HasOneItemList, HasAtMostOneRecord}, mime.TokenTexts.{IsRead}}
 use Rattle.data_url.proofs.mime.TokenTexts.{closed_reading, is_closed, is_open, is_read, open_reading, every_token}
@@ -83,18 +83,18 @@ not_begins_front p q (c ∷ s) h = elim (q c) as (λ v. DoesNotBegin p (take (co
 ]
 
 -- if a text does not begin with '"', '=' and the text give the value that is read without quotes
-is_plain_reading : (s : List ℕ) → DoesNotBegin is_quote s → IsReading (61 ∷ s) (plain_reading s)
-is_plain_reading s h =
+is_unquoted_reading : (s : List ℕ) → DoesNotBegin is_quote s → IsReading (61 ∷ s) (unquoted_reading s)
+is_unquoted_reading s h =
     let gives = plain (front_of in_value s) (front_passes in_value s) (not_begins_front is_quote in_value s h) in
     let begins = begins_from (without_start in_value s) (after_begins in_value s) in
     record { tail = 61 ∷ front_of in_value s; joined = grind (arith, take-append-drop); gives = gives; begins = begins }
 
 -- '=' and any text give the value that is read from the text
 is_given_reading : (s : List ℕ) → IsReading (61 ∷ s) (given_reading s)
-is_given_reading [] = is_plain_reading [] tt
+is_given_reading [] = is_unquoted_reading [] tt
 is_given_reading (c ∷ s) = elim (cases_Bool (c == 34)) [
   | inl e ↦ rw (eqb-true c 34 e) (is_quoted_reading s (is_read false s))
-  | inr e ↦ rw e (is_plain_reading (c ∷ s) e)
+  | inr e ↦ rw e (is_unquoted_reading (c ∷ s) e)
 ]
 
 -- reading a text that is empty or begins with ';' or '=' returns a value that it gives, and the rest

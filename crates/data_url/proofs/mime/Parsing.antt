@@ -128,8 +128,8 @@ verbatim bytes text n u e f =
     let whole = sym (eqb-true _ _ (sym (whole_front p text) ∙ all_from_every p text every)) in
     stays_unescaped (chars text) (whole_passes p unescaped_steady text text (length text) u refl whole refl)
 
--- the lemmas for `read_plain`
-pub ruleset plain_values = (cut_plain, no_value, some_value)
+-- the lemmas for `read_unquoted`
+pub ruleset unquoted_values = (cut_plain, no_value, some_value)
 
 -- if a text begins with an ASCII byte, its code points begin with it
 pub first_char : (bs : List ℕ) (c : ℕ) → IsUtf8 bs → c < 128 → 0 < length bs → get_or bs 0 0 ≡ c
@@ -220,10 +220,10 @@ ends_after p c [] n h = n
 ends_after p c (d ∷ t) n h = h
 
 -- if s is empty or begins with ';', the parts of "text/plain" ++ s are "text", "plain" and s without its whitespace end
-pub plain_head_is : (s t : List ℕ) → BeginsParameters s → IsTrimmedEnd is_http_whitespace s t
+pub text_plain_head_is : (s t : List ℕ) → BeginsParameters s → IsTrimmedEnd is_http_whitespace s t
     → IsHead (codes "text/plain" ++ s) (chars (codes "text")) (chars (codes "plain")) t
 unfolding on_literals chars
-plain_head_is s t b e = record {
+text_plain_head_is s t b e = record {
   gap = [];
   joined = sym (trimmed_end_is is_http_whitespace (codes "text/plain" ++ s) (codes "text/plain" ++ t)
       (search (arith, e, ends_after)));

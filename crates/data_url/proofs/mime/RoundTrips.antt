@@ -16,8 +16,9 @@ use Rattle.data_url.specs.Mime.{is_token_text, printed, printed_pair, printed_va
 use Rattle.data_url.specs.Mime.{is_lowercase_name, is_quote, kept_pairs, plain, quoted, unless_empty, valid_pairs}
 use Rattle.data_url.specs.{Mime.{after_backslash, nothing_quoted, as_itself}, Steps.Parsing.{DoesNotEnd}}
 use Rattle.data_url.specs.{Steps.Parsing.{HasLowercaseNames, is_escaped}, MimeType.{code_points, pair_of, record_of}}
-use Rattle.data_url.specs.{MimeType.{SameTexts, same_pair, same_texts, texts_of_pair}, Steps.Printing.{Adds, IsHeld}}
-use Rattle.data_url.specs.{Steps.Printing.{held}, declared.mime.{Mime.{Mime}, line.Line.{Line}}}
+use Rattle.data_url.specs.MimeType.{SameTexts, same_pair, same_texts, texts_of_pair}
+use Rattle.data_url.specs.Steps.Printing.{AddsToBuffer, IsHeld}
+use Rattle.data_url.specs.{Steps.Printing.{held}, declared.mime.{Mime.{Mime}, print_buffer.PrintBuffer.{PrintBuffer}}}
 use Rattle.data_url.proofs.mime.{FirstNames.{lower_is_itself, test_from_different}, Items.{not_begins_append}}
 use Rattle.data_url.proofs.mime.{Items.{has_at_most_one_record}, Parsing.{ends_after, unescaped_steady, whole_passes}}
 use Rattle.data_url.proofs.{mime.TokenTexts.{every_token, token_below}, texts.CodePoints.{no_chars, end_stays}}
@@ -70,13 +71,15 @@ abbrev pub pairs_text : {A B : Type 0} → List (String A × String B) → List 
 pairs_text pairs = encode_utf8_all (flat_map printed_pair (map (λ p. pair_of p) pairs))
 
 -- if what a line holds and the text a are UTF-8, and m holds both in at most 128 bytes, they fit and are UTF-8
-pub held_more : (l m : Line) (a : List ℕ) → IsUtf8 (held l) → IsUtf8 a → held m ≡ held l ++ a → m.len ≤ 128 → IsHeld m
+pub held_more : (l m : PrintBuffer) (a : List ℕ) → IsUtf8 (held l) → IsUtf8 a → held m ≡ held l ++ a → m.len ≤ 128
+    → IsHeld m
 held_more l m a u w e h = record { fits = h; text = subst IsUtf8 (sym e) (IsUtf8-append (held l) a u w) }
 
-module _ {W : Type 0} {took : W → List ℕ → W → Type 0} {f : Formatter W} {l : Line} where
+module _ {W : Type 0} {took : W → List ℕ → W → Type 0} {f : Formatter W} {l : PrintBuffer} where
   -- a text and then another are added as one text
-  pub adds_more : {g h : Formatter W} {m n : Line} {a b : List ℕ} → Adds took f l a g m → Adds took g m b h n
-      → Adds took f l (a ++ b) h n
+  pub adds_more : {g h : Formatter W} {m n : PrintBuffer} {a b : List ℕ} → AddsToBuffer took f l a g m
+      → AddsToBuffer took g m b h n
+      → AddsToBuffer took f l (a ++ b) h n
   adds_more x y = record {
     written = x.written ++ y.written;
     wrote = λ p. has_written_styled_append _ _ _ _ _ _ (x.wrote p) (y.wrote (x.wrote p).flush);
@@ -84,21 +87,24 @@ module _ {W : Type 0} {took : W → List ℕ → W → Type 0} {f : Formatter W}
   }
 
   -- a text that is equal to one that is added is added
-  pub adds_same : {g : Formatter W} {m : Line} {a b : List ℕ} → a ≡ b → Adds took f l a g m → Adds took f l b g m
+  pub adds_same : {g : Formatter W} {m : PrintBuffer} {a b : List ℕ} → a ≡ b → AddsToBuffer took f l a g m
+      → AddsToBuffer took f l b g m
   adds_same {a = a} {b = b} e x = grind arith
 
   -- a text that is put into the buffer is added
-  pub adds_held : {m : Line} {a : List ℕ} → held m ≡ held l ++ a → Adds took f l a f m
+  pub adds_held : {m : PrintBuffer} {a : List ℕ} → held m ≡ held l ++ a → AddsToBuffer took f l a f m
   adds_held e = record { written = []; wrote = has_written_styled_nil _ _; joined = grind arith }
 
   -- so it is if the buffer is written first
-  pub adds_after : {g : Formatter W} (m : Line) {n : Line} {a : List ℕ}
-      → (IsFlush f → HasWrittenStyled took f (held l) g) → m.len ≡ 0 → held n ≡ held m ++ a → Adds took f l a g n
+  pub adds_after : {g : Formatter W} (m : PrintBuffer) {n : PrintBuffer} {a : List ℕ}
+      → (IsFlush f → HasWrittenStyled took f (held l) g) → m.len ≡ 0 → held n ≡ held m ++ a
+      → AddsToBuffer took f l a g n
   adds_after m x z e = record { written = held l; wrote = x; joined = grind arith }
 
   -- a text that is written after the buffer is added
-  pub adds_written : {g h : Formatter W} {m : Line} {a : List ℕ} → (IsFlush f → HasWrittenStyled took f (held l) g)
-      → (IsFlush g → HasWrittenStyled took g a h) → m.len ≡ 0 → Adds took f l a h m
+  pub adds_written : {g h : Formatter W} {m : PrintBuffer} {a : List ℕ}
+      → (IsFlush f → HasWrittenStyled took f (held l) g)
+      → (IsFlush g → HasWrittenStyled took g a h) → m.len ≡ 0 → AddsToBuffer took f l a h m
   adds_written {a = a} x y z = record {
     written = held l ++ a;
     wrote = λ p. has_written_styled_append _ _ _ _ _ _ (x p) (y (x p).flush);
@@ -107,15 +113,15 @@ module _ {W : Type 0} {took : W → List ℕ → W → Type 0} {f : Formatter W}
 
 -- what is written, what the line holds, and what is left are together the whole text
 pub record Prints {W : Type 0} (took : W → List ℕ → W → Type 0) (start : Formatter W) (left whole : List ℕ)
-    (f : Formatter W) (line : Line) : Type 0 where
+    (f : Formatter W) (line : PrintBuffer) : Type 0 where
   pub written : List ℕ
   pub wrote : IsFlush start → HasWrittenStyled took start written f
   pub joined : written ++ (held line ++ left) ≡ whole
 
-module _ {W : Type 0} {took : W → List ℕ → W → Type 0} {f g : Formatter W} {l : Line} where
+module _ {W : Type 0} {took : W → List ℕ → W → Type 0} {f g : Formatter W} {l : PrintBuffer} where
   -- after the type, '/', and the subtype, the printed pairs are left
-  pub prints_starts : (r : Mime) (a b : List ℕ) {m : Line} → l.len ≡ 0 → a ≡ string_bytes r.type_
-      → b ≡ string_bytes r.subtype → Adds took f l ((a ++ (47 ∷ [])) ++ b) g m
+  pub prints_starts : (r : Mime) (a b : List ℕ) {m : PrintBuffer} → l.len ≡ 0 → a ≡ string_bytes r.type_
+      → b ≡ string_bytes r.subtype → AddsToBuffer took f l ((a ++ (47 ∷ [])) ++ b) g m
       → Prints took f (pairs_text r.parameters.items) (encode_utf8_all (printed (record_of r))) g m
   unfolding printed
   prints_starts r a b z d e x = grind (arith, append_assoc, encode_ascii, text_bytes, encodes-append)
@@ -123,7 +129,8 @@ module _ {W : Type 0} {took : W → List ℕ → W → Type 0} {f g : Formatter 
   module _ {A B : Type 0} {pairs items : List (String A × String B)} {start : Formatter W} (i : ℕ) {whole : List ℕ}
       (x : Prints took start (pairs_text (drop i pairs)) whole f l) (e : items ≡ pairs) where
     -- after pair i is added, of which a and b are the bytes, the pairs from i + 1 on are left
-    pub prints_more : {item : String A × String B} {m : Line} {a b : List ℕ} → Adds took f l (encode_utf8_all
+    pub prints_more : {item : String A × String B} {m : PrintBuffer} {a b : List ℕ}
+        → AddsToBuffer took f l (encode_utf8_all
         (printed_pair (chars a, chars b))) g m → i < length items → item ≡ get_or items i item → a ≡ string_bytes item.0
         → b ≡ string_bytes item.1 → Prints took start (pairs_text (drop (i + 1) pairs)) whole g m
     prints_more y l k a b = record {
@@ -138,7 +145,7 @@ module _ {W : Type 0} {took : W → List ℕ → W → Type 0} {f g : Formatter 
     prints_ends l y p = has_written_styled_of_eq _ _ _ _ _ (grind (arith, append-nil, drop_of_length-le))
         (has_written_styled_append _ _ _ _ _ _ (x.wrote p) (y (x.wrote p).flush))
 
--- the lemmas for `line.rt`
+-- the lemmas for `print_buffer.rt`
 pub ruleset lines = (adds_held, adds_after, adds_written, held_more)
 
 -- the lemmas for `push_escaped`

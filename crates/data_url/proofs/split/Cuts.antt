@@ -9,7 +9,7 @@ use Rattle.std.proofs.lemmas.{Slice.Eq.{bytes_eq-Decides, starts_is}, Str.{IsCha
 use Rattle.std.proofs.lemmas.Str.{IsCharBoundary-from_take, IsUtf8-from_ascii}
 use Rattle.std.specs.{Char.{to_ascii_lowercase}, Str.{IsCharBoundary, IsUtf8}, List.{starts_with, prefix_len}}
 use Rattle.data_url.specs.{Mime.{Every}, Steps.Split.{HasNoScheme, IsSchemeAndRest, IsHeaderAndTail, in_header}}
-use Rattle.data_url.specs.{Steps.{Split.{is_plain_path}, Header.{header_text}}, Url.{without_tabs_and_newlines}}
+use Rattle.data_url.specs.{Steps.{Split.{is_unencoded_path}, Header.{header_text}}, Url.{without_tabs_and_newlines}}
 use Rattle.data_url.specs.Url.{is_tab_or_newline, after, front}
 use Rattle.data_url.proofs.{percent.Encoding.{kept_whole, ascii_all, Plain}, texts.Bytes.{before_at, after_none}}
 use Rattle.data_url.proofs.texts.Bytes.{after_nil, after_other, after-dropped_none, without_tabs_and_newlines-append}
@@ -122,7 +122,7 @@ pub at_hash : (s : List ℕ) (n : ℕ) → IsHeaderEnd s n → get_or s n 0 ≡ 
 unfolding front
 at_hash s n f h = cc (cut_at s n f.within, before_at 35 (take n s) (drop (n + 1) s) f.no_hash)
 
-module _ (s items : List ℕ) (n k : ℕ) (e : items ≡ s) (f : n ≡ prefix_len is_plain_path items)
+module _ (s items : List ℕ) (n k : ℕ) (e : items ≡ s) (f : n ≡ prefix_len is_unencoded_path items)
     (g : k ≡ prefix_len in_header (take (length items - n) (drop n items))) where
   -- the first ',' or '#' of the text, if there is one, is k bytes after the n plain bytes at the front
   end_at : n + k ≡ prefix_len in_header s
@@ -142,7 +142,7 @@ module _ (s items : List ℕ) (n k : ℕ) (e : items ≡ s) (f : n ≡ prefix_le
       grind (arith, end_at, take_all, before_all)
 
 -- if the ',' follows directly after the plain bytes at the front, the header is serialised as it is
-pub plain_before : (s items header : List ℕ) (n k : ℕ) → items ≡ s → n ≡ prefix_len is_plain_path items
+pub plain_before : (s items header : List ℕ) (n k : ℕ) → items ≡ s → n ≡ prefix_len is_unencoded_path items
     → ((i : ℕ) → get_or s i 0 < 256) → header ≡ take (n + k) s → n + k ≡ n
     → header_text (without_tabs_and_newlines header) ≡ header
 unfolding header_text

@@ -3,9 +3,9 @@ use Rattle.std.specs.Prelude.{◌/◌, ◌<◌, ◌==◌, ◌≡◌, Bool, List,
 use Rattle.data_url.specs.CodePoints.{is_http_whitespace, is_token}
 use Rattle.data_url.specs.Url.{is_c0_control_or_space, is_tab_or_newline}
 use Rattle.data_url.specs.Steps.Header.{is_no_question_mark}
-use Rattle.data_url.specs.Steps.Split.{in_header, is_plain_path}
+use Rattle.data_url.specs.Steps.Split.{in_header, is_unencoded_path}
 use Rattle.data_url.specs.Steps.Parsing.{in_name, in_value, is_escaped, is_quotable_byte, is_unquoted_byte}
-use Rattle.data_url.specs.declared.classes.Class.TheVariants.{Control, Header, Name, Path, PlainPath, Quotable}
+use Rattle.data_url.specs.declared.classes.Class.TheVariants.{Control, Header, Name, Path, UnencodedPath, Quotable}
 use Rattle.data_url.specs.declared.classes.Class.TheVariants.{TabOrNewline, Token, Unescaped, Unquoted, Value}
 use Rattle.data_url.specs.declared.classes.Class.TheVariants.{Whitespace}
 use Rattle.data_url.specs.declared.classes.Class.{Class}
@@ -16,7 +16,7 @@ abbrev pub in_class : Class → ℕ → Bool
 in_class Token = is_token
 in_class Quotable = is_quotable_byte
 in_class Unquoted = is_unquoted_byte
-in_class PlainPath = is_plain_path
+in_class UnencodedPath = is_unencoded_path
 in_class Whitespace = is_http_whitespace
 in_class Unescaped = λ b. not (is_escaped b)
 in_class Control = is_c0_control_or_space

@@ -14,7 +14,7 @@ use Rattle.data_url.specs.declared.mime.values.Value.{Value}
 -- the text of a value, without the '\' before a code point of a quoted string
 abbrev pub value_text : Value → List ℕ
 value_text slices.Missing = []
-value_text (slices.Plain text) = chars text.now
+value_text (slices.Unquoted text) = chars text.now
 value_text (slices.Verbatim text) = chars text.now
 value_text (slices.Quoted text) = unescaped false (chars text.now)
 
@@ -27,8 +27,8 @@ abbrev pub kept_of : FewParameters → List NameAndValue
 kept_of few = take few.len few.slices
 
 -- the pairs that are kept
-abbrev pub pairs_of : FewParameters → List Pair
-pairs_of few = map (λ s. sliced_pair s) (kept_of few)
+abbrev pub sliced_pairs : FewParameters → List Pair
+sliced_pairs few = map (λ s. sliced_pair s) (kept_of few)
 
 -- the names of slices are token texts
 abbrev pub AreAllTokens : List NameAndValue → Type 0
@@ -44,14 +44,14 @@ pub record AreTokens (few : FewParameters) : Type 0 where
 -- than eight
 abbrev pub IsAdded : FewParameters → Parameter → Bool → FewParameters → Type 0
 IsAdded old parameter true new =
-    (pairs_of new ≡ pairs_of old ++ unless_named (pairs_of old) (pair_in parameter)) × AreTokens new
-IsAdded old parameter false new = 8 < length (pairs_of old ++ unless_named (pairs_of old) (pair_in parameter))
+    (sliced_pairs new ≡ sliced_pairs old ++ unless_named (sliced_pairs old) (pair_in parameter)) × AreTokens new
+IsAdded old parameter false new = 8 < length (sliced_pairs old ++ unless_named (sliced_pairs old) (pair_in parameter))
 
 -- the pairs that are kept of the text of the parameters are kept as slices
 pub record IsKept (text : List ℕ) (few : FewParameters) : Type 0 where
   pub items : List Item
   pub items_are : Items text items
-  pub pairs_are : pairs_of few ≡ kept_pairs items
+  pub pairs_are : sliced_pairs few ≡ kept_pairs items
   pub tokens : AreTokens few
 
 -- more than eight pairs are kept of the text of the parameters

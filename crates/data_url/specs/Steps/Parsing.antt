@@ -79,8 +79,8 @@ pub record Reading : Type 0 where
   pub rest : List ℕ
 
 -- the value without quotes at the front of a text
-abbrev pub plain_reading : List ℕ → Reading
-plain_reading s = record {
+abbrev pub unquoted_reading : List ℕ → Reading
+unquoted_reading s = record {
   value = unless_empty (without_end is_http_whitespace (front_of in_value s));
   rest = without_start in_value s;
 }
@@ -94,7 +94,7 @@ quoted_reading s = record {
 
 -- the value in a text, from the text after its '"' if it begins with one
 abbrev pub reading_from : List ℕ → Option (List ℕ) → Reading
-reading_from s None = plain_reading s
+reading_from s None = unquoted_reading s
 reading_from s (Some quoted) = quoted_reading quoted
 
 -- the value in the text after a '='
@@ -134,7 +134,7 @@ quotable_value (Some value) = if list_all is_quotable value then Some value else
 -- the value of the slices, if it is there and has only HTTP quoted-string token code points
 abbrev pub value_of : Value → Option (List ℕ)
 value_of slices.Missing = None
-value_of (slices.Plain text) = Some (chars text.now)
+value_of (slices.Unquoted text) = Some (chars text.now)
 value_of (slices.Verbatim text) = quotable_value (Some (chars text.now))
 value_of (slices.Quoted text) = quotable_value (Some (unescaped false (chars text.now)))
 

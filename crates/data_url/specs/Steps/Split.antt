@@ -23,8 +23,8 @@ abbrev pub in_header : ℕ → Bool
 in_header b = not ((b == comma) || (b == number_sign))
 
 -- a byte of a path that is serialised as it is, and is none of '#', ',' and '?'
-abbrev pub is_plain_path : ℕ → Bool
-is_plain_path b = is_in_range 32 126 b && not ((b == number_sign) || ((b == comma) || (b == 63)))
+abbrev pub is_unencoded_path : ℕ → Bool
+is_unencoded_path b = is_in_range 32 126 b && not ((b == number_sign) || ((b == comma) || (b == 63)))
 
 -- the text is the header, the first comma, and the tail; the header has no '#'
 pub record IsHeaderAndTail (text header tail : List ℕ) : Type 0 where

@@ -3,7 +3,7 @@
 ghost use Rattle.std.specs.Prelude.{◌≡◌, IsTrue, MatchBool, map};
 ghost use Rattle.std.specs.{Char.{to_ascii_lowercase}, Str.{bytes_eq, chars}};
 ghost use Rattle.data_url.specs.Mime.{BeginsParameters, has_name, is_token_text};
-ghost use Rattle.data_url.specs.Steps.Few.{AreMany, AreTokens, IsAdded, IsKept, pairs_of};
+ghost use Rattle.data_url.specs.Steps.Few.{AreMany, AreTokens, IsAdded, IsKept, sliced_pairs};
 
 use super::cuts::after_char;
 use super::parse::{Parameter, read_parameter};
@@ -65,7 +65,7 @@ impl<'a> FewParameters<'a> {
     fn has_name(&self, name: &str) -> bool
         requires tokens { AreTokens self.now }
         requires token { IsTrue (is_token_text (chars name.now)) }
-        ensures { result ≡ has_name (map to_ascii_lowercase (chars name.now)) (pairs_of self.now) }
+        ensures { result ≡ has_name (map to_ascii_lowercase (chars name.now)) (sliced_pairs self.now) }
     {
         for slice in &self.slices[..self.len] {
             if is_same_name(slice.name, name) {

@@ -118,7 +118,7 @@ fn put_value(output: &mut [u8], at: usize, value: &Value<'_>) -> usize
 {
     match value {
         Value::Missing => put_text(output, at, ""),
-        Value::Plain(text) | Value::Verbatim(text) => put_text(output, at, text),
+        Value::Unquoted(text) | Value::Verbatim(text) => put_text(output, at, text),
         Value::Quoted(text) => put_quoted(output, at, text),
     }
 }

@@ -7,7 +7,7 @@ ghost use Rattle.data_url.specs.Mime.{BeginsParameters, IsHead, Item, Items, is_
 ghost use Rattle.data_url.specs.Mime.{IsRecordOfParts};
 ghost use Rattle.data_url.specs.Url.{without_start};
 ghost use Rattle.data_url.specs.Steps.Parsing.{HasNoHead, given_reading, in_value, item_in, pair_in};
-ghost use Rattle.data_url.specs.Steps.Parsing.{plain_reading, quotable_value, quoted_len, reading_in, unescaped};
+ghost use Rattle.data_url.specs.Steps.Parsing.{unquoted_reading, quotable_value, quoted_len, reading_in, unescaped};
 ghost use Rattle.data_url.specs.Steps.Parsing.{unless_named, value_of};
 ghost use Rattle.data_url.specs.{Steps.Kept.{IsIndexed, pairs_of}, MimeType.{pair_of, record_of}};
 
@@ -83,8 +83,8 @@ pub(crate) fn read_head(text: &str) -> Option<Head<'_>>
 }
 
 /// Returns the parts of the MIME type `text/plain` with the text after the subtype.
-#[tactic(auto, using(crate::proofs::mime::Parsing::plain_head_is))]
-pub(crate) fn plain_head(parameters: &str) -> Head<'_>
+#[tactic(auto, using(crate::proofs::mime::Parsing::text_plain_head_is))]
+pub(crate) fn text_plain_head(parameters: &str) -> Head<'_>
     requires { BeginsParameters (chars parameters.now) }
     ensures { IsHead (codes "text/plain" ++ chars parameters.now)
         (chars result.type_.now) (chars result.subtype.now) (chars result.parameters.now) }
@@ -123,7 +123,7 @@ fn read_value(text: &str) -> (Value<'_>, &str)
     ensures rest { chars result.1.now ≡ (given_reading (chars text.now)).rest }
 {
     let Some(quoted) = after_char(text, b'"') else {
-        return read_plain(text);
+        return read_unquoted(text);
     };
     let (text, is_verbatim, after) = split_quote(quoted);
     let value = if is_verbatim {
@@ -135,9 +135,9 @@ fn read_value(text: &str) -> (Value<'_>, &str)
 }
 
 /// Returns the value after a `=` that does not begin with `"`, and the text after it.
-#[tactic(auto, using(crate::proofs::mime::Parsing::plain_values))]
-fn read_plain(text: &str) -> (Value<'_>, &str)
-    ensures value { value_of result.0 ≡ quotable_value (plain_reading (chars text.now)).value }
+#[tactic(auto, using(crate::proofs::mime::Parsing::unquoted_values))]
+fn read_unquoted(text: &str) -> (Value<'_>, &str)
+    ensures value { value_of result.0 ≡ quotable_value (unquoted_reading (chars text.now)).value }
     ensures rest { chars result.1.now ≡ without_start in_value (chars text.now) }
 {
     let bytes = text.as_bytes();
@@ -147,7 +147,7 @@ fn read_plain(text: &str) -> (Value<'_>, &str)
     if value.is_empty() || value.len() > quotable {
         return (Value::Missing, rest);
     }
-    (Value::Plain(value), rest)
+    (Value::Unquoted(value), rest)
 }
 
 /// Splits a text at the quote that closes a quoted string. If there is none, the whole text is the quoted string. The
@@ -162,16 +162,16 @@ fn split_quote(text: &str) -> (&str, bool, &str)
         ≡ drop (suc (quoted_len false (chars text.now))) (chars text.now) }
 {
     let bytes = text.as_bytes();
-    let plain_len = long_span(Class::Unescaped, bytes);
-    let mut place = plain_len;
+    let verbatim_len = long_span(Class::Unescaped, bytes);
+    let mut place = verbatim_len;
     while place < bytes.len() {
         if bytes[place] == b'"' {
-            return (&text[..place], place == plain_len, &text[place + 1..]);
+            return (&text[..place], place == verbatim_len, &text[place + 1..]);
         }
         let from = bytes.len().min(place + 2);
         place = from + span_if_any(Class::Unescaped, &bytes[from..]);
     }
-    (text, plain_len == bytes.len(), "")
+    (text, verbatim_len == bytes.len(), "")
 }
 
 /// The length of the shortest valid parameter, such as `;a=b`, in bytes; about half of what most take.

@@ -4,50 +4,50 @@ ghost use Rattle.std.specs.{Fmt.{WritesStyledOnOk}, List.{flat_map}, Str.{chars,
 ghost use Rattle.data_url.specs.{Mime.{escaped_code_point, printed_pair}, Steps.Printing.{AddsOnOk, IsHeld}};
 
 use super::cuts::is_token_text;
-use super::line::Line;
+use super::print_buffer::PrintBuffer;
 use crate::classes::{Class, long_span};
 use std::fmt;
 
-/// Adds `;`, a name, `=` and a value: as it is if it is not empty and has only token code points, and otherwise in
-/// quotes.
+/// AddsToBuffer `;`, a name, `=` and a value: as it is if it is not empty and has only token code points, and
+/// otherwise in quotes.
 pub(super) fn push_parameter<W: fmt::Write>(
-    line: &mut Line,
+    buffer: &mut PrintBuffer,
     f: &mut fmt::Formatter<W>,
     name: &str,
     value: &str,
 ) -> fmt::Result
-    requires { IsHeld line.old }
-    ensures added { AddsOnOk W.write_str_gives f.old line.old result
-        (encode_utf8_all (printed_pair (chars name.now, chars value.now))) f.new line.new }
-    ensures held { IsHeld line.new }
+    requires { IsHeld buffer.old }
+    ensures added { AddsOnOk W.write_str_gives f.old buffer.old result
+        (encode_utf8_all (printed_pair (chars name.now, chars value.now))) f.new buffer.new }
+    ensures held { IsHeld buffer.new }
 {
-    line.push(f, ";")?;
-    line.push(f, name)?;
-    line.push(f, "=")?;
+    buffer.push(f, ";")?;
+    buffer.push(f, name)?;
+    buffer.push(f, "=")?;
     if is_token_text(value) {
-        return line.push(f, value);
+        return buffer.push(f, value);
     }
-    line.push(f, "\"")?;
-    push_escaped(line, f, value)?;
-    line.push(f, "\"")
+    buffer.push(f, "\"")?;
+    push_escaped(buffer, f, value)?;
+    buffer.push(f, "\"")
 }
 
 /// Adds a text with a `\` before each `"` and each `\`.
 #[tactic(auto, using(crate::proofs::mime::RoundTrips::escaping))]
 fn push_escaped<W: fmt::Write>(
-    line: &mut Line,
+    buffer: &mut PrintBuffer,
     f: &mut fmt::Formatter<W>,
     text: &str,
 ) -> fmt::Result
-    requires { IsHeld line.old }
-    ensures added { AddsOnOk W.write_str_gives f.old line.old result
-        (encode_utf8_all (flat_map escaped_code_point (chars text.now))) f.new line.new }
-    ensures held { IsHeld line.new }
+    requires { IsHeld buffer.old }
+    ensures added { AddsOnOk W.write_str_gives f.old buffer.old result
+        (encode_utf8_all (flat_map escaped_code_point (chars text.now))) f.new buffer.new }
+    ensures held { IsHeld buffer.new }
 {
     if long_span(Class::Unescaped, text.as_bytes()) == text.len() {
-        return line.push(f, text);
+        return buffer.push(f, text);
     }
-    line.flush(f)?;
+    buffer.flush(f)?;
     write_each_escaped(f, text)
 }
 

@@ -17,7 +17,7 @@ pub(super) enum Value<'a> {
     /// No value, or one with a code point that is not a quoted-string code point.
     Missing,
     /// A value without quotes, of quoted-string code points.
-    Plain(&'a str),
+    Unquoted(&'a str),
     /// The text of a quoted string that has neither `"` nor `\`.
     Verbatim(&'a str),
     /// The text of another quoted string: between the quotes, or after the first one up to the end.
@@ -33,7 +33,7 @@ impl<'a> Value<'a> {
     {
         match self {
             Value::Missing => false,
-            Value::Plain(_) => true,
+            Value::Unquoted(_) => true,
             Value::Verbatim(text) | Value::Quoted(text) => is_quotable(text),
         }
     }
@@ -44,7 +44,7 @@ impl<'a> Value<'a> {
         ensures { IfOk result (λ text. option_map (λ t. code_points t) text ≡ value_of self.now) }
     {
         match self {
-            Value::Plain(text) => Ok(Some(String::from_str(alloc, text)?)),
+            Value::Unquoted(text) => Ok(Some(String::from_str(alloc, text)?)),
             Value::Verbatim(text) if is_quotable(text) => Ok(Some(String::from_str(alloc, text)?)),
             Value::Quoted(text) if is_quotable(text) => Ok(Some(unescaped(alloc, text)?)),
             _ => Ok(None),
@@ -105,7 +105,7 @@ fn copy_rows(text: &[u8], value: &mut [u8], len: usize) -> usize
     requires { len + length text.now ≤ length value.old }
     ensures within { result ≤ length text.now }
     ensures copied { take (len + result) value.new ≡ take len value.old ++ take result text.now }
-    ensures plain { unescaped false text.now
+    ensures verbatim { unescaped false text.now
         ≡ take result text.now ++ unescaped false (drop result text.now) }
 {
     if text.len() < ROW || !has(Class::Unescaped, text[0]) {

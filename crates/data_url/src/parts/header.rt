@@ -52,7 +52,7 @@ pub fn read_header<'a>(
             tail: split.tail,
         });
     }
-    let Ok(text) = serialise(alloc, split.header, split.is_plain) else {
+    let Ok(text) = serialise(alloc, split.header, split.is_serialised) else {
         return Err(DataUrlError::OutOfMemory);
     };
     let (media, base64) = split_suffix(serialised_text(&text, split.header));

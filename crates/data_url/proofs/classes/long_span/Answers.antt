@@ -1,5 +1,5 @@
 use Rattle.std.proofs.{Common.{◌≡◌, ◌<◌, ℕ, arith, false, not, refl, true}, lemmas.List.{take_rest}}
-use Rattle.data_url.specs.Steps.{Classes.{in_class, is_marked}, Header.{is_no_question_mark}, Split.{is_plain_path}}
+use Rattle.data_url.specs.Steps.{Classes.{in_class, is_marked}, Header.{is_no_question_mark}, Split.{is_unencoded_path}}
 use Rattle.data_url.specs.Steps.Parsing.{is_escaped, is_quotable_byte, is_unquoted_byte}
 use Rattle.data_url.proofs.{classes.Rows.{all_marked, unmarked_passes}, texts.CodePoints.{front_further}}
 use Rattle.data_url.proofs.classes.long_span.Goals as goal
@@ -11,7 +11,7 @@ unfolding is_quotable_byte
 unmarked c = elim c.match-class.branch [
   | goal.in-Quotable w ↦ rw (w.in-Quotable.is, w.class_table-is) (unmarked_passes _ is_quotable_byte refl)
   | goal.in-Unquoted w ↦ rw (w.in-Unquoted.is, w.class_table-is) (unmarked_passes _ is_unquoted_byte refl)
-  | goal.in-PlainPath w ↦ rw (w.in-PlainPath.is, w.class_table-is) (unmarked_passes _ is_plain_path refl)
+  | goal.in-UnencodedPath w ↦ rw (w.in-UnencodedPath.is, w.class_table-is) (unmarked_passes _ is_unencoded_path refl)
   | goal.in-Path w ↦ rw (w.in-Path.is, w.class_table-is) (unmarked_passes _ is_no_question_mark refl)
   | goal.in-Unescaped w ↦ rw (w.in-Unescaped.is, w.class_table-is) (unmarked_passes _ (λ b. not (is_escaped b)) refl)
   | goal.in_default w ↦ rw w.class_table-is (all_marked _ _ refl)

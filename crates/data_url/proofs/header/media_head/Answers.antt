@@ -10,4 +10,4 @@ returns c =
 pub returns-then-starts_with : goal.returns-then-starts_with
 returns-then-starts_with c =
     let same = plain_added c.args.media.now c.requires (grind arith) in
-    rw same at c.plain_head.ensures
+    rw same at c.text_plain_head.ensures

@@ -5,7 +5,7 @@ use Rattle.data_url.proofs.mime.MimeDisplay.fmt.Goals as goal
 pub loop-name-init : goal.loop-name-init
 loop-name-init g c = (
   c.in_ok-push-3.ensures.held,
-  prints_starts c.args.self.now _ _ c.new-line.ensures.none c.deref.ensures c.deref-2.ensures (adds_more (adds_more
+  prints_starts c.args.self.now _ _ c.new-buffer.ensures.none c.deref.ensures c.deref-2.ensures (adds_more (adds_more
       (c.in_ok-push.ensures.added refl) (c.in_ok-push-2.ensures.added refl)) (c.in_ok-push-3.ensures.added refl)),
 )
 

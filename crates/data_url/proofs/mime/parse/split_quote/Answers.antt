@@ -4,7 +4,7 @@ use Rattle.data_url.proofs.mime.parse.split_quote.Goals as goal
 
 pub loop-place-init : goal.loop-place-init
 loop-place-init c =
-    quoting_from _ 0 _ _ (omega arith) (omega arith) c.long_span-plain_len.ensures.prefix (omega arith)
+    quoting_from _ 0 _ _ (omega arith) (omega arith) c.long_span-verbatim_len.ensures.prefix (omega arith)
 
 pub loop-place-preserved : goal.loop-place-preserved
 loop-place-preserved c = quoting_next _ c.loop-place.place _ _ c.loop-place.invariant c.loop-place-test.true
@@ -14,6 +14,6 @@ pub returns-clause-verbatim : goal.returns-clause-verbatim
 returns-clause-verbatim c h =
     let n = eqb-true _ _ h in
     let bytes = c.as_bytes-bytes.result.now in
-    let whole = take_all c.long_span-plain_len.result bytes (omega (arith, n)) in
-    verbatim bytes c.args.text.now c.long_span-plain_len.result c.utf8.text c.long_span-plain_len.ensures.prefix
+    let whole = take_all c.long_span-verbatim_len.result bytes (omega (arith, n)) in
+    verbatim bytes c.args.text.now c.long_span-verbatim_len.result c.utf8.text c.long_span-verbatim_len.ensures.prefix
     (sym (whole ∙ c.as_bytes-bytes.ensures.value))

@@ -15,7 +15,7 @@ returns-then-not-is_unmarked c =
     record {
       within = h.1.within;
       copied = copies_on c.put.new.bytes _ i (omega arith) c.row-row.ensures c.put.ensures h.0;
-      plain = plain_front c.args.text.now _ h.1.within (λ k. omega (arith, c.type_inv.text k)) h.1.front;
+      verbatim = plain_front c.args.text.now _ h.1.within (λ k. omega (arith, c.type_inv.text k)) h.1.front;
     }
 
 pub loop-copied-preserved : goal.loop-copied-preserved
@@ -29,6 +29,6 @@ loop-copied-preserved c =
       value_is = copies_on c.put.new.bytes 16 i (omega arith) c.row-row.ensures c.put.ensures (omega arith);
     }
 
-pub returns-clause-plain : goal.returns-clause-plain
-returns-clause-plain c = plain_front c.args.text.now _ c.loop-copied.invariant.front.within
+pub returns-clause-verbatim : goal.returns-clause-verbatim
+returns-clause-verbatim c = plain_front c.args.text.now _ c.loop-copied.invariant.front.within
     (λ k. omega (arith, c.type_inv.text k)) c.loop-copied.invariant.front.front

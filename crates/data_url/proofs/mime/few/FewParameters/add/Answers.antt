@@ -1,12 +1,12 @@
 use Rattle.std.proofs.Common.{arith, inl, inr, map, refl, sym, ◌∙◌}
 use Rattle.std.specs.{Char.{to_ascii_lowercase}, Str.{chars}}
-use Rattle.data_url.specs.Steps.{Few.{pairs_of}, Parsing.{value_of}}
+use Rattle.data_url.specs.Steps.{Few.{sliced_pairs}, Parsing.{value_of}}
 use Rattle.data_url.proofs.mime.{FewPairs.{no_pair_added, no_room, one_pair_added}, FirstNames.{token_text_lower}}
 use Rattle.data_url.proofs.mime.few.FewParameters.add.Goals as goal
 
 pub returns-then-not-parameter : goal.returns-then-not-parameter
 returns-then-not-parameter c = (
-  no_pair_added (pairs_of c.args.self.now)
+  no_pair_added (sliced_pairs c.args.self.now)
       (map to_ascii_lowercase (chars c.args.parameter.now.name.now)) (value_of c.args.parameter.now.value)
       (elim c.then-not-parameter.branch [
         | goal.then-not-parameter-via-then-not-parameter w ↦

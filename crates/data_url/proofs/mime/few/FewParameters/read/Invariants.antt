@@ -1,6 +1,6 @@
 -- The pairs so far, with those that are kept of the rest; the rest of the text gets shorter.
 use Rattle.std.{proofs.Common.{length}, specs.Str.{chars}}
-use Rattle.data_url.specs.Steps.Few.{AreTokens, pairs_of}
+use Rattle.data_url.specs.Steps.Few.{AreTokens, sliced_pairs}
 use Rattle.data_url.proofs.mime.FirstNames.{KeepsOn}
 use denote.Shadow.{shadow}
 use denote.Text.{Utf8}
@@ -9,7 +9,7 @@ use Rattle.data_url.proofs.mime.few.FewParameters.read.Given as goal
 abbrev pub invariant-loop-after : goal.invariant-loop-after
 invariant-loop-after l = record {
   text : shadow (Utf8 l.rest);
-  keeps : KeepsOn (chars l.text) (chars l.rest) (pairs_of l.self);
+  keeps : KeepsOn (chars l.text) (chars l.rest) (sliced_pairs l.self);
   tokens : AreTokens l.self;
 }
 

@@ -1,5 +1,5 @@
 use Rattle.data_url.proofs.mime.Parsing.{no_value}
-use Rattle.data_url.proofs.mime.parse.read_plain.Goals as goal
+use Rattle.data_url.proofs.mime.parse.read_unquoted.Goals as goal
 
 pub returns-then-is_empty-clause-value : goal.returns-then-is_empty-clause-value
 returns-then-is_empty-clause-value c =

@@ -1,4 +1,4 @@
-//! A buffer, so that a line is written in few calls.
+//! A buffer of printed text, so that short texts are written together.
 #![tactic(auto, using(crate::proofs::mime::RoundTrips::lines))]
 
 ghost use Rattle.std.specs.{Fmt.{WritesStyledOnOk}, Prelude.{◌≡◌, ◌+◌, ◌++◌, ◌≤◌, [], length}};
@@ -9,27 +9,27 @@ use std::{fmt, str};
 /// The size of the buffer, in bytes.
 const BUFFER_LEN: usize = 128;
 
-/// The end of the output, held in a buffer so that short texts are written together.
+/// The end of the printed text, which is held until there is enough to be written.
 #[derive(Drop)]
-pub(super) struct Line {
-    room: [u8; BUFFER_LEN],
+pub(super) struct PrintBuffer {
+    bytes: [u8; BUFFER_LEN],
     len: usize,
 }
 
-impl Line {
-    /// A line with an empty buffer.
+impl PrintBuffer {
+    /// Returns an empty buffer.
     #[inline(always)]
-    pub(super) fn new() -> Line
+    pub(super) fn new() -> PrintBuffer
         ensures none { result.len ≡ 0 }
         ensures held { IsHeld result }
     {
-        Line {
-            room: [0; BUFFER_LEN],
+        PrintBuffer {
+            bytes: [0; BUFFER_LEN],
             len: 0,
         }
     }
 
-    /// Appends a text that fits to the buffer.
+    /// Appends a text that fits.
     #[inline(always)]
     fn hold(&mut self, text: &str)
         requires { self.old.len + length text.now ≤ 128 }
@@ -37,7 +37,7 @@ impl Line {
         ensures fits { self.new.len ≤ 128 }
     {
         let end = self.len + text.len();
-        self.room[self.len..end].copy_from_slice(text.as_bytes());
+        self.bytes[self.len..end].copy_from_slice(text.as_bytes());
         self.len = end;
     }
 
@@ -53,7 +53,7 @@ impl Line {
         ensures held { IsHeld self.new }
     {
         if text.len() > BUFFER_LEN - self.len {
-            return self.push_past_room(f, text);
+            return self.push_past_end(f, text);
         }
         self.hold(text);
         Ok(())
@@ -61,11 +61,7 @@ impl Line {
 
     /// Adds a text that does not fit until the buffer is written.
     #[inline(never)]
-    fn push_past_room<W: fmt::Write>(
-        &mut self,
-        f: &mut fmt::Formatter<W>,
-        text: &str,
-    ) -> fmt::Result
+    fn push_past_end<W: fmt::Write>(&mut self, f: &mut fmt::Formatter<W>, text: &str) -> fmt::Result
         requires { IsHeld self.old }
         ensures added { AddsOnOk W.write_str_gives f.old self.old result text.now f.new self.new }
         ensures held { IsHeld self.new }
@@ -87,6 +83,6 @@ impl Line {
     {
         let len = self.len;
         self.len = 0;
-        f.write_str(unsafe { str::from_utf8_unchecked(&self.room[..len]) })
+        f.write_str(unsafe { str::from_utf8_unchecked(&self.bytes[..len]) })
     }
 }
