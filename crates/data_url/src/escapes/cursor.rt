@@ -72,7 +72,9 @@ impl<'a> Cursor<'a> {
         }
     }
 
-    /// Returns the bytes before the first marked byte, at most `most` of them, and goes to the place after them.
+    /// Returns the bytes before the first marked byte, at most `most` of them, and goes to the place after them. If the
+    /// first byte is a `%`, that byte alone is the first block, so that the bytes after its escape can be packed. Any
+    /// other first byte may be read once more, with the block that it is in: the bound on looks has room for that.
     #[inline(always)]
     pub(super) fn next_prefix(&mut self, most: usize) -> &'a [u8]
         requires start { self.old.place ≡ 0 }
@@ -81,7 +83,8 @@ impl<'a> Cursor<'a> {
         ensures few { length result.now ≤ most }
         ensures knows { Knows self.new }
     {
-        self.block = Block::between(0, 0, 0);
+        let is_percent = self.source.len() > 0 && self.source.look(0) == b'%';
+        self.block = Block::between(0, usize::from(is_percent), u64::from(is_percent));
         let len = self.source.len();
         let end = len.min(most);
         let place = self.block.next_mark(&mut self.source, 0, end).min(end);
