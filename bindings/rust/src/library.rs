@@ -3,7 +3,6 @@
 use alloc::alloc::{handle_alloc_error, Layout};
 use alloc::string::String;
 use alloc::vec::Vec;
-use core::convert::TryInto;
 use core::mem::MaybeUninit;
 
 pub(crate) const DONE: u32 = 0;
@@ -160,21 +159,22 @@ fn written<A, T>(
     let mut room = Room::<WRITTEN>::new();
     let mut more = Vec::new();
     let mut given = call(room.as_mut_ptr(), WRITTEN);
-    let bytes = match answer(&given) {
-        (DONE, len) => room.written(len),
-        (OUTPUT_TOO_SMALL, len) => {
-            more.reserve_exact(len);
-            given = call(more.as_mut_ptr(), len);
-            match answer(&given) {
-                (DONE, len) => {
-                    assert!(len <= more.capacity());
-                    unsafe { more.set_len(len) };
-                }
-                (status, _) => return refuse(refusal(status)),
-            }
-            &more
+    let (status, len) = answer(&given);
+    let bytes = if status == DONE {
+        room.written(len)
+    } else {
+        if status != OUTPUT_TOO_SMALL {
+            return refuse(refusal(status));
         }
-        (status, _) => return refuse(refusal(status)),
+        more.reserve_exact(len);
+        given = call(more.as_mut_ptr(), len);
+        let (status, len) = answer(&given);
+        if status != DONE {
+            return refuse(refusal(status));
+        }
+        assert!(len <= more.capacity());
+        unsafe { more.set_len(len) };
+        &more
     };
     read(&given, bytes)
 }
@@ -213,12 +213,15 @@ impl<'a> Iterator for Parts<'a> {
         if self.0.is_empty() {
             return None;
         }
-        let (len, rest) = self.0.split_at(LENGTH);
-        let len = u64::from_le_bytes(len.try_into().expect("eight bytes")) as usize;
-        let (part, rest) = rest.split_at(len);
-        self.0 = rest;
-        // The library wrote the parts.
-        Some(unsafe { text_of(part) })
+        // The library wrote each part, a text, after its length.
+        unsafe {
+            let len = (self.0.as_ptr() as *const [u8; LENGTH]).read();
+            let end = LENGTH + u64::from_le_bytes(len) as usize;
+            debug_assert!(end <= self.0.len());
+            let part = text_of(self.0.get_unchecked(LENGTH..end));
+            self.0 = self.0.get_unchecked(end..);
+            Some(part)
+        }
     }
 }
 
@@ -243,7 +246,10 @@ pub(crate) fn open<'a, T>(
         |out, room| unsafe { dataurl_open_parts_utf8(url.as_ptr(), url.len(), out, room) },
         |opened| (opened.status, opened.len),
         |opened, parts| {
-            let tail = &url[opened.tail..opened.tail + opened.tail_len];
+            // The library cuts the text after its comma, and before controls and spaces at its end.
+            let tail = opened.tail..opened.tail + opened.tail_len;
+            debug_assert!(url.get(tail.clone()).is_some());
+            let tail = unsafe { url.get_unchecked(tail) };
             read(Parts(parts), opened.is_base64, tail)
         },
         refuse,

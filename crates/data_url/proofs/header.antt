@@ -1,3 +1,4 @@
 pub mod Ends
+pub mod Media
 pub mod Serialising
 pub mod Stages

@@ -94,8 +94,11 @@ pub(crate) fn span(class: Class, bytes: &[u8]) -> usize
 pub(crate) fn end_span(class: Class, bytes: &[u8]) -> usize
     ensures { result ≡ suffix_len (in_class class) bytes.now }
 {
-    let from_end = bytes.iter().rev();
-    from_end.take_while(|byte| has(class, **byte)).count()
+    let mut end = bytes.len();
+    while end > 0 && has(class, bytes[end - 1]) {
+        end -= 1;
+    }
+    bytes.len() - end
 }
 
 /// Returns how many bytes at the start are in a class. It tests rows of sixteen bytes, which is faster than `span` if

@@ -1,17 +1,19 @@
 //! The header of a data: URL (Fetch Standard, section 6), from its text in the input.
 
 ghost use Rattle.std.specs.Prelude.{◌≡◌, if◌then◌else◌, [], IfOk, IfSome, List, MatchOption, codes, map};
-ghost use Rattle.std.specs.Prelude.{string_bytes, true, ℕ};
+ghost use Rattle.std.specs.Prelude.{length, string_bytes, take, true, ℕ};
 ghost use Rattle.std.specs.{Char.{to_ascii_lowercase}, Str.{bytes_eq, chars}};
 ghost use Rattle.data_url.specs.{Url.{without_tabs_and_newlines}, Fetch.{before_base64, with_plain}};
 ghost use Rattle.data_url.specs.Mime.{IsHead, Record, default_record};
 ghost use Rattle.data_url.specs.Steps.{MimeParts.{WritesParts}, Parsing.{HasNoHead}};
-ghost use Rattle.data_url.specs.Steps.Header.{IsHeaderOf, IsPathAndQuery, IsPrintable, IsRecordFor, IsSerialised};
-ghost use Rattle.data_url.specs.Steps.Header.{encoded_parts, header_text};
+ghost use Rattle.data_url.specs.Steps.Header.{IsHeaderOf, IsMedia, IsPathAndQuery, IsPrintable, IsRecordFor};
+ghost use Rattle.data_url.specs.Steps.Header.{IsSerialised, encoded_parts, header_text};
 ghost use Rattle.data_url.specs.MimeType.{as_option, record_of};
 
 use crate::classes::{Class, end_span, long_span};
-use crate::mime::{Head, Mime, read_head, text_plain_head, write_default};
+use crate::mime::{
+    Head, Mime, read_trimmed_head, text_plain_head, without_trailing_whitespace, write_default,
+};
 use crate::percent::{EncodeSet, PART, push_encoded};
 use crate::split::trim;
 use std::alloc::{AllocError, Global};
@@ -54,11 +56,11 @@ fn serialised(alloc: Global, header: &[u8]) -> Result<String, AllocError>
 
 /// Returns whether bytes are `base64` in any ASCII case. Most are in lower case, which is faster to test.
 #[inline(always)]
-fn is_suffix_word(word: &[u8]) -> bool
+fn is_suffix_word(word: &[u8; 6]) -> bool
     ensures { result ≡ bytes_eq (map to_ascii_lowercase word.now)
         (map to_ascii_lowercase (codes "base64")) }
 {
-    word == SUFFIX.as_slice() || word.eq_ignore_ascii_case(&SUFFIX)
+    word.as_slice() == SUFFIX.as_slice() || word.eq_ignore_ascii_case(&SUFFIX)
 }
 
 /// Returns the text before `;`, spaces and `base64` (in any ASCII case) at the end of a header, if it ends so.
@@ -67,16 +69,15 @@ fn is_suffix_word(word: &[u8]) -> bool
 fn without_suffix(header: &str) -> Option<&str>
     requires { IsPrintable header.now }
     ensures text { as_option result ≡ before_base64 header.now }
-    ensures printable { IfSome result (λ text. IsPrintable text.now) }
+    ensures prefix { IfSome result (λ text. text.now ≡ take (length text.now) header.now) }
 {
-    let bytes = header.as_bytes();
-    let word = bytes.len().checked_sub(SUFFIX.len())?;
-    if !is_suffix_word(&bytes[word..]) {
+    let (front, word) = header.as_bytes().split_last_chunk()?;
+    if !is_suffix_word(word) {
         return None;
     }
-    let end = word - end_span(Class::Control, &bytes[..word]);
+    let end = front.len() - end_span(Class::Control, front);
     let semicolon = end.checked_sub(1)?;
-    if bytes[semicolon] != b';' {
+    if front[semicolon] != b';' {
         return None;
     }
     Some(&header[..semicolon])
@@ -107,18 +108,19 @@ pub(crate) fn serialised_text<'a>(text: &'a Option<String>, header: &'a str) -> 
     text.as_deref().unwrap_or(header)
 }
 
-/// A serialised header without its suffix, and whether it has one, so that the body is base64.
+/// A serialised header without its suffix and without whitespace at its ends, and whether it has the suffix, so that
+/// the body is base64.
 #[inline(always)]
 #[tactic(auto, using(crate::proofs::header::Stages::printable_trimmed))]
 pub(crate) fn split_suffix(header: &str) -> (&str, bool)
     requires { IsPrintable header.now }
     ensures header { (m : Record) → IsRecordFor (with_plain result.0.now) m
         → IsHeaderOf header.now m result.1 }
-    ensures printable { IsPrintable result.0.now }
+    ensures media { IsMedia result.0.now }
 {
     let stripped = trim(header);
     match without_suffix(stripped) {
-        Some(text) => (text, true),
+        Some(text) => (without_trailing_whitespace(text), true),
         None => (stripped, false),
     }
 }
@@ -127,7 +129,7 @@ pub(crate) fn split_suffix(header: &str) -> (&str, bool)
 #[inline(always)]
 #[tactic(auto, using(crate::proofs::header::Stages::chars_printable, crate::proofs::header::Stages::begins_at))]
 fn media_head(media: &str) -> Option<Head<'_>>
-    requires { IsPrintable media.now }
+    requires { IsMedia media.now }
     ensures { MatchOption result (HasNoHead (with_plain media.now))
         (λ h. IsHead (with_plain media.now) (chars h.type_.now) (chars h.subtype.now)
         (chars h.parameters.now)) }
@@ -135,12 +137,12 @@ fn media_head(media: &str) -> Option<Head<'_>>
     if media.as_bytes().starts_with(b";") {
         return Some(text_plain_head(media));
     }
-    read_head(media)
+    read_trimmed_head(media)
 }
 
 /// Returns the record of a header without its suffix, or the default record.
 pub(crate) fn read_media(alloc: Global, media: &str) -> Result<Mime, AllocError>
-    requires { IsPrintable media.now }
+    requires { IsMedia media.now }
     ensures { IfOk result (λ mime. IsRecordFor (with_plain media.now) (record_of mime)) }
 {
     match media_head(media) {
@@ -156,7 +158,7 @@ pub(crate) fn write_media(
     media: &str,
     output: &mut [u8],
 ) -> Result<usize, AllocError>
-    requires { IsPrintable media.now }
+    requires { IsMedia media.now }
     ensures { WritesParts (IsRecordFor (with_plain media.now)) output.old output.new result }
 {
     match &media_head(media) {

@@ -12,9 +12,11 @@ mod print;
 mod print_buffer;
 mod values;
 
+pub(crate) use cuts::without_trailing_whitespace;
 pub use in_parts::read_mime_type;
 pub(crate) use in_parts::write_default;
-pub(crate) use parse::{Head, read_head, text_plain_head};
+use parse::read_head;
+pub(crate) use parse::{Head, read_trimmed_head, text_plain_head};
 use print::push_parameter;
 use print_buffer::PrintBuffer;
 use std::alloc::{AllocError, Global};

@@ -7,7 +7,7 @@ ghost use Rattle.std.specs.Prelude.{◌≡◌, ◌<◌, ◌+◌, ◌-◌, ◌++�
 ghost use Rattle.std.specs.Prelude.{OnOk, drop, false, length, string_bytes, ℕ};
 ghost use Rattle.std.specs.Str.{IsUtf8};
 ghost use Rattle.data_url.specs.Url.{without_tabs_and_newlines, percent_encoding};
-ghost use Rattle.data_url.specs.Steps.{Classes.{is_marked}, Sets.{IsEntry, byte_encoding, in_set}};
+ghost use Rattle.data_url.specs.Steps.{Classes.{may_be_outside}, Sets.{IsEntry, byte_encoding, in_set}};
 
 use crate::classes::lanes::rows_len;
 use std::alloc::AllocError;
@@ -158,7 +158,7 @@ const FRAGMENT: [u8; 1024] = *b"\
 #[inline(always)]
 #[rattlefmt::skip]
 fn unencoded_table(set: EncodeSet) -> [u8; 16]
-    ensures { (b : ℕ) → b < 256 → is_marked result b ≡ false
+    ensures { (b : ℕ) → b < 256 → may_be_outside result b ≡ false
         → byte_encoding (in_set set) b ≡ b ∷ [] }
 {
     match set {

@@ -6,7 +6,7 @@ use Rattle.std.proofs.lemmas.Simd.{bitmask_splat, map-map, none_from_empty_mask,
 use Rattle.std.proofs.lemmas.{List.Sums.{prefix_len-le-length}, Bool.{agree_below, agree_below_at, cases_lt}}
 use Rattle.std.proofs.{lemmas.Bool.{false≢true}, lemmas.List.{length-map}, Math.Bool.{and_assoc}}
 use Rattle.std.specs.{Int.Count.{count_trailing_zeros}, List.{prefix_len, list_all, range_with_len}}
-use Rattle.data_url.specs.{Steps.Classes.{AreOf, classified, is_marked}, declared.classes.TheConstants.{CLASSES}}
+use Rattle.data_url.specs.{Steps.Classes.{AreOf, classified, may_be_outside}, declared.classes.TheConstants.{CLASSES}}
 use Rattle.data_url.proofs.forgiving_base64.Vectors.{differs, or_zero}
 use lib.Lanes.{fold_l, mask_l, sel_l, top, zip2}
 
@@ -14,7 +14,7 @@ use lib.Lanes.{fold_l, mask_l, sel_l, top, zip2}
 pub marks_are : (class_table v found : List ℕ) → length v ≡ 16 → found ≡ map (classified class_table) v
     → mask_l (map (top 7) (zip2 (λ a b. cond (differs a b) 255 0) found
     (0 ∷ 0 ∷ 0 ∷ 0 ∷ 0 ∷ 0 ∷ 0 ∷ 0 ∷ 0 ∷ 0 ∷ 0 ∷ 0 ∷ 0 ∷ 0 ∷ 0 ∷ 0 ∷ []))) % 2 ^ 64 ≡ mask_l
-    (map (is_marked class_table) v)
+    (map (may_be_outside class_table) v)
 marks_are class_table v found long e =
     let size = ap length e ∙ length-map v (classified class_table) ∙ long in
     cc (
@@ -31,7 +31,7 @@ or_all f a (x ∷ v) = grind (arith, or_all f (bit_or a (f x)) v, or_zero a (f x
 
 -- the bitwise or of all items is 0 exactly if no byte is marked
 pub unmarked_is : (class_table v found : List ℕ) → found ≡ map (classified class_table) v
-    → eqb (fold_l bit_or 0 found) 0 ≡ list_all (λ b. not (is_marked class_table b)) v
+    → eqb (fold_l bit_or 0 found) 0 ≡ list_all (λ b. not (may_be_outside class_table b)) v
 unmarked_is class_table v found e = ap (λ l. eqb (fold_l bit_or 0 l) 0) e ∙ or_all (classified class_table) 0 v
 
 -- for each of n indices from i on, whether it is less than p
@@ -71,25 +71,25 @@ mask_zero p (x ∷ xs) = grind (arith, mask_zero p xs)
 
 module _ (class_table bytes : List ℕ) (at : ℕ) {row : List ℕ} {b : Bool} (h : Looked class_table bytes at)
     (room : at + 16 ≤ length bytes)
-    (r : row ≡ take 16 (drop at bytes)) (e : b ≡ list_all (λ x. not (is_marked class_table x)) row) where
+    (r : row ≡ take 16 (drop at bytes)) (e : b ≡ list_all (λ x. not (may_be_outside class_table x)) row) where
   -- so is the mask of a row
-  row_mask : (mask_l (map (is_marked class_table) (take 16 (drop at bytes))) == 0) ≡ b
+  row_mask : (mask_l (map (may_be_outside class_table) (take 16 (drop at bytes))) == 0) ≡ b
   row_mask = grind (arith, mask_zero)
 
   -- if a row has no marked byte, the bytes before the end of the row are of the class, too
   pub one_row_more : b ≡ true → Looked class_table bytes (at + 16)
   one_row_more t =
-      let row = none_from_empty_mask (is_marked class_table) bytes at 16 0 room (eqb-true _ _ (row_mask ∙ t)) in
+      let row = none_from_empty_mask (may_be_outside class_table) bytes at 16 0 room (eqb-true _ _ (row_mask ∙ t)) in
       let all : AreOf class_table bytes (at + 16) = λ k l. ⊎_elim (h.front k) (λ (m : at ≤ k). row k m l)
       (cases_lt k at) in
       record { within = room; front = all }
 
   -- otherwise, so are those before the first marked byte of the row
-  pub row_front : (n : ℕ) → b ≡ false → n ≡ count_trailing_zeros 64 (mask_l (map (is_marked class_table) row))
+  pub row_front : (n : ℕ) → b ≡ false → n ≡ count_trailing_zeros 64 (mask_l (map (may_be_outside class_table) row))
       → (n ≤ 16) × Looked class_table bytes (at + n)
   row_front n t f =
       let found = take 16 (drop at bytes) in
-      let p : ℕ → Bool = is_marked class_table in
+      let p : ℕ → Bool = may_be_outside class_table in
       let long = length-take-le 16 (drop at bytes) (omega (arith, length-drop {A = ℕ})) in
       let some : 0 < mask_l (map p found) = grind (arith, row_mask, t) in
       let counted : n ≡ prefix_len (λ x. not (p x)) found = grind (arith, count_trailing_zeros, trailing_mask_l) in

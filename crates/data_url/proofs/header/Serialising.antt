@@ -47,6 +47,18 @@ pub record HasWord (s : List ℕ) (n spaces : ℕ) : Type 0 where
   pub is : map to_ascii_lowercase (drop n s) ≡ word
   pub spaces_are : spaces ≡ suffix_len is_c0_control_or_space (take n s)
 
+-- a text that is cut before its last six bytes, which are the word, has the word
+pub has_word : (s front w : List ℕ) (spaces : ℕ) → front ≡ take (length s - 6) s → w ≡ drop (length s - 6) s
+    → length front + 6 ≡ length s → bytes_eq (map to_ascii_lowercase w) word ≡ true
+    → spaces ≡ suffix_len is_c0_control_or_space front → HasWord s (length front) spaces
+has_word s front w spaces f g six is e =
+    let size : length s - 6 ≡ length front = omega (arith, six) in
+    record {
+      six = six;
+      is = grind (arith, bytes_eq-Decides);
+      spaces_are = grind arith;
+    }
+
 -- the text before the spaces
 after_word : (s : List ℕ) (n spaces : ℕ) → IsPrintable s → HasWord s n spaces
     → before_base64 s ≡ before_semicolon (take (n - spaces) s)
@@ -239,7 +251,7 @@ ends_from p (c ∷ d ∷ s) h =
     ends_from p (d ∷ s) (λ l. rw e at (h (omega arith)))
 
 -- a text without its end of C0 controls and spaces does not end with one
-ends_trimmed : (s : List ℕ) → DoesNotEnd is_c0_control_or_space (without_end is_c0_control_or_space s)
+pub ends_trimmed : (s : List ℕ) → DoesNotEnd is_c0_control_or_space (without_end is_c0_control_or_space s)
 ends_trimmed s = grind (arith, ends_from, suffix_len-le-length, length-take, suffix_stops, get_or-take)
 
 -- a text that is not empty, and does not end with one, is neither empty nor ends with a space without tabs and newlines

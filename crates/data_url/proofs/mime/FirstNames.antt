@@ -23,7 +23,7 @@ use Rattle.data_url.specs.Mime.{IsRecordOfParts, has_name, BeginsParameters, Ite
 use Rattle.data_url.specs.Mime.{is_lowercase_name, is_token_text, kept_pairs, valid_of, valid_pairs, HasNoRecord}
 use Rattle.data_url.specs.{Mime.{IsHead, IsWellformed}, MimeType.{pair_of, code_points}, Steps.Kept.{first_of}}
 use Rattle.data_url.specs.Steps.Kept.{fingerprint_of, pairs_of, AreFingerprints, HasLaterNames, IsIndexed, letter_at}
-use Rattle.data_url.specs.Steps.Parsing.{HasLowercaseNames, added_pairs, after_char, item_in, pair_if, reading_in}
+use Rattle.data_url.specs.Steps.Parsing.{HasLowercaseNames, added_pairs, item_in, pair_if, reading_in}
 use Rattle.data_url.specs.{Steps.Parsing.{unless_named, HasNoHead}, declared.mime.kept.KeptParameters.{KeptParameters}}
 use Rattle.data_url.specs.declared.mime.kept.TheConstants.{LOOKED_THROUGH, FINGERPRINTS_LEN, CASE}
 use Rattle.data_url.proofs.mime.Items.{has_items, has_parameter, items_are, items_in, rest_shorter}
@@ -269,7 +269,7 @@ pub record KeepsOn (whole rest : List ℕ) (pairs : List Pair) : Type 0 where
 
 -- if the rest begins with a parameter, and the pairs get what its item adds, `KeepsOn` is true of what follows
 pub keeps_more : {whole rest s rest' : List ℕ} {pairs pairs' pair : List Pair} → KeepsOn whole rest pairs
-    → after_char 59 rest ≡ Some s → pair ≡ valid_of (item_in s) → rest' ≡ (reading_in s).rest
+    → rest ≡ 59 ∷ s → pair ≡ valid_of (item_in s) → rest' ≡ (reading_in s).rest
     → pairs' ≡ pairs ++ unless_named pairs pair → KeepsOn whole rest' pairs'
 keeps_more {whole} {rest} {s} {pairs = pairs} k e p r a =
     let next = (reading_in s).rest in
@@ -280,11 +280,11 @@ keeps_more {whole} {rest} {s} {pairs = pairs} k e p r a =
     let all = first_of_each_name (pairs ++ added) left in
     grind (arith, first_step pairs (item_in s) left, append_assoc pairs added all)
 
--- if the rest does not begin with ';', the pairs are those that are kept of the items of the whole text
+-- at the end, the pairs are those that are kept of the items of the whole text
 pub keeps_end : {whole rest : List ℕ} {pairs : List Pair} → KeepsOn whole rest pairs → BeginsParameters whole
-    → after_char 59 rest ≡ None → (items : List Item) × Items whole items × (pairs ≡ kept_pairs items)
+    → rest ≡ [] → (items : List Item) × Items whole items × (pairs ≡ kept_pairs items)
 keeps_end {whole} {rest = []} {pairs = pairs} k w e = grind (arith, items_in, has_items, append-nil)
-keeps_end {rest = c ∷ rest} k w e = grind arith
+keeps_end {rest = c ∷ rest} k w e = absurd (cc)
 
 -- if the pairs are more than eight, more than eight are kept of the items of the whole text
 pub keeps_many : {whole rest : List ℕ} {pairs : List Pair} → KeepsOn whole rest pairs → BeginsParameters whole

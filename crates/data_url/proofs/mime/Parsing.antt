@@ -2,19 +2,22 @@
 use Rattle.std.proofs.Common.{length, take, drop, encode_utf8_all, refl, sym, ap, ◌∙◌, arith, take-append-drop}
 use Rattle.std.proofs.Common.{length-take-le, codes, subst, take-take, length-take, ◌≡◌, ℕ, zero, suc, ◌+◌, ◌-◌, ◌<◌}
 use Rattle.std.proofs.Common.{get_or, ◌≢◌, ◌==◌, Bool, true, false, not, List, [], ◌∷◌, ◌++◌, ◌≤◌, ◌||◌, ◌⊎◌, None}
-use Rattle.std.proofs.Common.{Some, cond}
+use Rattle.std.proofs.Common.{Some, append-nil, cond}
 use Rattle.std.proofs.{Common.{nat_le, encode_utf8, map, Option, eqb-true}, Math.Seq.{take-length}}
 use Rattle.std.proofs.lemmas.{List.{drop_more, take_rest, Folds.{list_all-append}}, Bool.{agree_below_at, false≢true}}
 use Rattle.std.proofs.lemmas.List.Sums.{prefix_len-le-length, prefix_len_passes, suffix_len-le-length}
 use Rattle.std.proofs.lemmas.Str.{chars_past_char, encode_ascii, encodes-chars}
-use Rattle.std.specs.{Str.{IsUtf8, chars}, Char.{to_ascii_lowercase}, List.{list_all, prefix_len}}
+use Rattle.std.specs.Option.{MatchOption}
+use Rattle.std.specs.{Str.{IsCharBoundary, IsUtf8, chars}, Char.{to_ascii_lowercase}, List.{list_all, prefix_len}}
 use Rattle.data_url.specs.{CodePoints.{is_http_whitespace, is_quotable, is_token}, Url.{without_end, without_start}}
-use Rattle.data_url.specs.Mime.{Every, unless_empty, BeginsParameters, IsHead, is_token_text, valid_of}
+use Rattle.data_url.specs.Mime.{DoesNotBegin, Every, unless_empty, BeginsParameters, IsHead, is_token_text, valid_of}
 use Rattle.data_url.specs.Steps.Parsing.{DoesNotEnd, front_of, in_value, is_escaped, is_quotable_byte, is_unquoted_byte}
-use Rattle.data_url.specs.Steps.Parsing.{item_in, named, pair_if, reading, reading_in, IsTrimmedEnd, quotable_value}
+use Rattle.data_url.specs.Steps.Parsing.{item_in, named, pair_if, reading, reading_in, IsTrimmed, IsTrimmedEnd, quotable_value}
 use Rattle.data_url.specs.Steps.Parsing.{unescaped, HasNoHead, IsTokens, after_char, in_name}
-use Rattle.data_url.proofs.{examples.Literals.{on_literals}, texts.CodePoints.{same_empty, trimmed_end_is, IsCutInto}}
-use Rattle.data_url.proofs.{texts.CodePoints.{IsSteady, cut_front, front_further, front_passes}, mime.Items.{has_parts}}
+use Rattle.data_url.specs.declared.mime.parse.Head.{Head}
+use Rattle.data_url.proofs.{examples.Literals.{on_literals}, texts.CodePoints.{after_begins, end_stays, same_empty, start_stays}}
+use Rattle.data_url.proofs.texts.CodePoints.{trimmed_end_is, IsCutInto}
+use Rattle.data_url.proofs.{texts.CodePoints.{IsSteady, cut_front, cut_into, front_further, front_passes}, mime.Items.{has_parts}}
 use Rattle.data_url.proofs.{mime.{Items.{trimmed_of}, TokenTexts.{values_steady, whole_front}}}
 use Rattle.data_url.proofs.mime.TokenTexts.{all_from_every, spaces_end, spaces_steady, tokens}
 use lib.Utf8.{encode}
@@ -177,6 +180,57 @@ token_not_nil : (a : List ℕ) → is_token_text a ≡ true → a ≡ [] → ⊥
 token_not_nil [] h e = absurd (false≢true h)
 token_not_nil (c ∷ a) h e = absurd (cc)
 
+-- a text that neither begins nor ends with HTTP whitespace stays as it is without it
+pub trimmed_stays : (s : List ℕ) → IsTrimmed s → trimmed_of is_http_whitespace s ≡ s
+trimmed_stays s h = ap (without_end is_http_whitespace) (start_stays is_http_whitespace s h.begins)
+    ∙ end_stays is_http_whitespace s h.ends
+
+-- if a ++ b does not begin with a code point that passes, a does not either
+begins_left : (p : ℕ → Bool) (a b : List ℕ) → DoesNotBegin p (a ++ b) → DoesNotBegin p a
+begins_left p [] b h = tt
+begins_left p (c ∷ a) b h = h
+
+-- without HTTP whitespace at both ends, a text neither begins nor ends with it
+pub is_trimmed : (s r t : List ℕ) → r ≡ without_start is_http_whitespace s → IsTrimmedEnd is_http_whitespace r t
+    → IsTrimmed t
+is_trimmed s r t e w = record {
+  begins = begins_left is_http_whitespace t w.back
+      (subst (DoesNotBegin is_http_whitespace) (sym e ∙ w.joined) (after_begins is_http_whitespace s));
+  ends = w.ends;
+}
+
+-- texts that are the same without HTTP whitespace at both ends have the same heads
+pub same_head : {s t a b c : List ℕ} → trimmed_of is_http_whitespace s ≡ trimmed_of is_http_whitespace t
+    → IsHead s a b c → IsHead t a b c
+same_head e h = record {
+  gap = h.gap;
+  joined = sym e ∙ h.joined;
+  is_type = h.is_type;
+  is_subtype = h.is_subtype;
+  in_gap = h.in_gap;
+  begins = h.begins;
+}
+
+-- what is read of a text without HTTP whitespace at both ends is what is in the text
+pub head_of_trimmed : (s : List ℕ) {t : List ℕ} (o : Option Head) → t ≡ trimmed_of is_http_whitespace s → IsTrimmed t
+    → MatchOption o (HasNoHead t) (λ h. IsHead t (chars h.type_.now) (chars h.subtype.now) (chars h.parameters.now))
+    → MatchOption o (HasNoHead s) (λ h. IsHead s (chars h.type_.now) (chars h.subtype.now) (chars h.parameters.now))
+head_of_trimmed s {t} None e h n = λ a b c k. n a b c (same_head (sym (trimmed_stays t h ∙ e)) k)
+head_of_trimmed s {t} (Some found) e h k = same_head (trimmed_stays t h ∙ e) k
+
+-- a text that is not empty and begins parameters can be cut after its ';'
+past_first : (bs cs : List ℕ) → IsUtf8 bs → chars bs ≡ cs → BeginsParameters cs → 0 < length bs
+    → IsCharBoundary bs 1 × (chars bs ≡ 59 ∷ chars (drop 1 bs))
+unfolding encode
+past_first bs [] u e b l = absurd (grind (arith, same_empty bs u))
+past_first bs (c ∷ s) u e b l =
+    let cut = cut_into bs (59 ∷ []) s 1 u (e ∙ ap (λ x. x ∷ s) b) refl in
+    (cut.boundary, e ∙ ap (λ x. x ∷ s) b ∙ ap (λ x. 59 ∷ x) (sym cut.after))
+
+pub past_semicolon : (bs : List ℕ) → IsUtf8 bs → BeginsParameters (chars bs) → 0 < length bs
+    → IsCharBoundary bs 1 × (chars bs ≡ 59 ∷ chars (drop 1 bs))
+past_semicolon bs u b l = past_first bs (chars bs) u refl b l
+
 -- if the type is empty, there is no head
 pub no_type : (s t : List ℕ) → t ≡ trimmed_of is_http_whitespace s → front_of is_token t ≡ [] → HasNoHead s
 no_type s t e z a b c h = grind (arith, has_parts, token_not_nil)
@@ -209,29 +263,27 @@ pub parameter_by : (s t front after : List ℕ) {o : Option (List ℕ)} → char
     × ((reading (chars after) o).rest ≡ (reading_in s).rest)
 parameter_by s t front after {o = o} g h k m value v = grind arith
 
--- if t ++ back is empty or begins with ';', t is empty or begins with ';'
-front_begins : (t back : List ℕ) → BeginsParameters (t ++ back) → BeginsParameters t
-front_begins [] back h = tt
-front_begins (c ∷ t) back h = h
-
 -- after a code point that does not pass
 pub ends_after : (p : ℕ → _) (c : ℕ) (t : List ℕ) → p c ≡ false → DoesNotEnd p t → DoesNotEnd p (c ∷ t)
 ends_after p c [] n h = n
 ends_after p c (d ∷ t) n h = h
 
--- if s is empty or begins with ';', the parts of "text/plain" ++ s are "text", "plain" and s without its whitespace end
-pub text_plain_head_is : (s t : List ℕ) → BeginsParameters s → IsTrimmedEnd is_http_whitespace s t
-    → IsHead (codes "text/plain" ++ s) (chars (codes "text")) (chars (codes "plain")) t
+-- if s is trimmed, and is empty or begins with ';', the parts of "text/plain" ++ s are "text", "plain" and s
+pub text_plain_head_is : (s : List ℕ) → BeginsParameters s → IsTrimmed s
+    → IsHead (codes "text/plain" ++ s) (chars (codes "text")) (chars (codes "plain")) s
 unfolding on_literals chars
-text_plain_head_is s t b e = record {
-  gap = [];
-  joined = sym (trimmed_end_is is_http_whitespace (codes "text/plain" ++ s) (codes "text/plain" ++ t)
-      (search (arith, e, ends_after)));
-  is_type = refl;
-  is_subtype = refl;
-  in_gap = tt;
-  begins = front_begins t e.back (subst BeginsParameters e.joined b);
-}
+text_plain_head_is s b h =
+    let e : IsTrimmedEnd is_http_whitespace s s =
+    record { back = []; joined = sym (append-nil s); at_back = tt; ends = h.ends } in
+    record {
+      gap = [];
+      joined = sym (trimmed_end_is is_http_whitespace (codes "text/plain" ++ s) (codes "text/plain" ++ s)
+          (search (arith, e, ends_after)));
+      is_type = refl;
+      is_subtype = refl;
+      in_gap = tt;
+      begins = b;
+    }
 
 -- the lemmas for `cuts.rt`
 pub ruleset cuts = (tokens, spaces_end, spaces_steady, values_steady, suffix_len-le-length, length-take-le)

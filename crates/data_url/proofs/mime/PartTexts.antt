@@ -1,9 +1,9 @@
 -- Parts that are written, one after another. For `in_parts.rt`.
-use Rattle.std.proofs.Common.{◌≡◌, ◌+◌, ◌^◌, ◌≤◌, ◌<◌, ◌==◌, ◌&&◌, ◌++◌, ◌∷◌, [], Bool, List, ap, arith, drop}
+use Rattle.std.proofs.Common.{◌≡◌, ◌+◌, ◌-◌, ◌^◌, ◌≤◌, ◌<◌, ◌==◌, ◌&&◌, ◌++◌, ◌∷◌, [], Bool, List, ap, arith, drop}
 use Rattle.std.proofs.Common.{Err, Ok, Result, inr, if◌then◌else◌, false, get_or, length, length-append}
 use Rattle.std.proofs.Common.{length-drop, length-take, map, not, refl, sym, take, true, ◌∙◌, ℕ, ap₂, append_assoc}
-use Rattle.std.proofs.Common.{append-nil, drop-drop, encode_utf8_all, suc, zero, subst, codes}
-use Rattle.std.proofs.lemmas.List.{drop_all, drop_more, length-map}
+use Rattle.std.proofs.Common.{append-nil, drop-drop, encode_utf8_all, min, suc, zero, subst, codes}
+use Rattle.std.proofs.lemmas.List.{drop_all, drop_more}
 use Rattle.std.proofs.lemmas.Simd.{put_chunk_is}
 use Rattle.std.proofs.lemmas.Slice.{drop-append-drop}
 use Rattle.std.proofs.lemmas.Str.{encodes-chars, encodes-IsAscii}
@@ -79,30 +79,50 @@ ascii_part : (s : List ℕ) → is_token_text s ≡ true → part s ≡ part (en
 ascii_part s h = ap part (sym (encodes-IsAscii s (token_text_ascii s h)))
 
 -- a part: its length, and then its text
-pub puts_part : (text : List ℕ) {old mid new : List ℕ} {at k end : ℕ}
+puts_part : (text : List ℕ) {old mid new : List ℕ} {at k end : ℕ}
     → Puts (to_le_bytes w64 (length text)) old at mid k → Puts text mid k new end → Puts (part text) old at new end
 unfolding part
 puts_part text v w = puts_both v w
 
+module _ (text : List ℕ) {n at start end : ℕ} (size : n ≡ length text) (g : start ≡ min (at + 8) (2 ^ 64 - 1))
+    (h : end ≡ min (start + n) (2 ^ 64 - 1)) where
+  -- a part that does not fit is not written
+  pub part_not : (old : List ℕ) → length old < end → Puts (part text) old at old end
+  unfolding part
+  part_not old l = record {
+    end_is = omega (arith, g, h, size, length-append (to_le_bytes w64 (length text)) text);
+    writes = record {
+      fits = λ f. absurd (omega (
+        arith,
+        g,
+        h,
+        l,
+        f,
+        size,
+        length-append (to_le_bytes w64 (length text)) text,
+      ));
+    };
+  }
+
+  -- a part that fits is written: its length, and then its text
+  pub part_fits : {piece old mid new : List ℕ} {k : ℕ} → piece ≡ text → end ≤ length old → length old < 2 ^ 63
+      → Puts (to_le_bytes w64 n) old at mid (at + 8) → Puts piece mid (at + 8) new k → Puts (part text) old at new end
+  part_fits {piece} {old} {mid} {new} {k} e l s v w =
+      let all = puts_part text (subst (λ i. Puts (to_le_bytes w64 i) old at mid (at + 8)) size v)
+      (subst (λ x. Puts x mid (at + 8) new k) e w) in
+      subst (Puts (part text) old at new) (omega (arith, g, h, l, s, size, w.end_is, ap length e)) all
+
 -- a part, whose text is encoded
-pub puts_text : (text bytes : List ℕ) {old mid new : List ℕ} {at k end : ℕ} → IsUtf8 text → bytes ≡ text
-    → Puts (to_le_bytes w64 (length text)) old at mid k → Puts bytes mid k new end
+pub puts_text : (text : List ℕ) {old new : List ℕ} {at end : ℕ} → IsUtf8 text → Puts (part text) old at new end
     → Puts (part (encode_utf8_all (chars text))) old at new end
-puts_text text bytes {old} {mid} {new} {at} {k} {end} u e v w =
-    subst (λ x. Puts (part x) old at new end) (sym (encodes-chars text u))
-    (puts_part text v (subst (λ x. Puts x mid k new end) e w))
+puts_text text {old} {new} {at} {end} u = subst (λ x. Puts (part x) old at new end) (sym (encodes-chars text u))
 
 -- a part in lower case, whose text is encoded
-pub puts_lower_part : (text bytes : List ℕ) {old mid new : List ℕ} {at k end : ℕ} → IsUtf8 text
-    → is_token_text (chars text) ≡ true → bytes ≡ text → Puts (to_le_bytes w64 (length text)) old at mid k
-    → Puts (map to_ascii_lowercase bytes) mid k new end
+pub puts_lower : (text : List ℕ) {old new : List ℕ} {at end : ℕ} → IsUtf8 text → is_token_text (chars text) ≡ true
+    → Puts (part (map to_ascii_lowercase text)) old at new end
     → Puts (part (encode_utf8_all (map to_ascii_lowercase (chars text)))) old at new end
-puts_lower_part text bytes {old} {mid} {new} {at} {k} {end} u h e v w =
-    let lower = map to_ascii_lowercase text in
-    let w' : Puts lower mid k new end = subst (λ x. Puts (map to_ascii_lowercase x) mid k new end) e w in
-    let size : length text ≡ length lower = sym (length-map text to_ascii_lowercase) in
+puts_lower text {old} {new} {at} {end} u h =
     subst (λ x. Puts (part x) old at new end) (sym (lower_encoded text u h))
-    (puts_part lower (subst (λ n. Puts (to_le_bytes w64 n) old at mid k) size v) w')
 
 -- Values of quoted strings
 
@@ -120,18 +140,17 @@ unescaped_short true [] = omega arith
 unescaped_short false (c ∷ s) = grind (arith, unescaped_short false s, unescaped_short true s)
 unescaped_short true (c ∷ s) = grind (arith, unescaped_short false s)
 
+-- the value of a quoted string has as many bytes as are counted
+pub value_len : (bytes : List ℕ) {out : List ℕ} {len : ℕ} → length bytes < 2 ^ 63
+    → Puts (unescaped false bytes) [] 0 out len → len ≡ length (unescaped false bytes)
+value_len bytes l counted = omega (arith, counted.end_is, unescaped_short false bytes)
+
 -- the value of a quoted string, as a part, whose text is encoded
-pub puts_quoted : (quoted bytes : List ℕ) {old mid new out : List ℕ} {at k end len : ℕ} → IsUtf8 quoted
-    → bytes ≡ quoted → length bytes < 2 ^ 63 → Puts (unescaped false bytes) [] 0 out len
-    → Puts (to_le_bytes w64 len) old at mid k → Puts (unescaped false bytes) mid k new end
+pub puts_quoted : (quoted : List ℕ) {old new : List ℕ} {at end : ℕ} → IsUtf8 quoted
+    → Puts (part (unescaped false quoted)) old at new end
     → Puts (part (encode_utf8_all (unescaped false (chars quoted)))) old at new end
-puts_quoted quoted bytes {old} {mid} {new} {at = at} {k = k} {end = end} {len = len} u e l counted v w =
-    let value = unescaped false bytes in
-    let same : len ≡ length value = omega (arith, counted.end_is, unescaped_short false bytes) in
-    let text : value ≡ encode_utf8_all (unescaped false (chars quoted)) =
-    sym (value_encodes u (ap (unescaped false) e)) in
-    subst (λ x. Puts (part x) old at new end) text
-    (puts_part value (subst (λ n. Puts (to_le_bytes w64 n) old at mid k) same v) w)
+puts_quoted quoted {old} {new} {at} {end} u =
+    subst (λ x. Puts (part x) old at new end) (sym (value_encodes u refl))
 
 module _ {quoted old mid : List ℕ} {e : Bool} {i at k : ℕ} (h : Unescaped quoted e i old at mid k) where
   module _ {e' : Bool} (l : i < length quoted) (f : e' ≡ ((get_or quoted i 0 == 92) && not e)) where

@@ -15,7 +15,7 @@ use Rattle.std.specs.{Str.{IsAscii, IsUtf8, chars}, List.{list_all, list_any, pr
 use Rattle.data_url.specs.{CodePoints.{is_http_whitespace, is_token}, Url.{without_start}, Mime.{Every, is_token_text}}
 use Rattle.data_url.specs.Mime.{Quoted, QuotedOpen, after_backslash, nothing_quoted, as_itself}
 use Rattle.data_url.specs.Steps.Parsing.{IsTokens, front_of, in_name, in_value, quoted_len, quoted_reading, unescaped}
-use Rattle.data_url.specs.Steps.{Parsing.{Quoting, is_escaped}, Classes.{AreOf, is_marked}}
+use Rattle.data_url.specs.Steps.{Parsing.{Quoting, is_escaped}, Classes.{AreOf, may_be_outside}}
 use Rattle.data_url.specs.declared.classes.TheConstants.{UNESCAPED}
 use Rattle.data_url.proofs.texts.CodePoints.{IsCutInto, IsEnd, IsSteady, cut_end, cut_front, every_ascii, front_passes}
 use Rattle.data_url.proofs.{texts.CodePoints.{cut_into, front_further}, classes.Rows.{Looked, unmarked_passes}}
@@ -292,7 +292,7 @@ pub plain_front : (text : List ℕ) (n : ℕ) → n ≤ length text → ((i : �
 plain_front text zero l f h = refl
 plain_front [] (suc n) l f h = absurd (omega arith)
 plain_front (b ∷ text) (suc n) l f h =
-    let passes = unmarked_passes (is_marked UNESCAPED) plain refl b (f 0) (h 0 (omega arith)) in
+    let passes = unmarked_passes (may_be_outside UNESCAPED) plain refl b (f 0) (h 0 (omega arith)) in
     grind (arith, plain_front text n (omega arith) (λ i. f (suc i)) (λ k m. h (suc k) (omega arith)))
 
 -- the first bytes of a text are copied to a place of a value

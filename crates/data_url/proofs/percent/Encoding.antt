@@ -12,7 +12,7 @@ use Rattle.std.{proofs.lemmas.Slice.{take-put_mid}, proofs.lemmas.Slice.Eq.{byte
 use Rattle.std.{proofs.lemmas.Str.{IsAscii-append, IsUtf8-from_ascii}, proofs.lemmas.Str.Ascii.{IsAscii-nil}}
 use Rattle.std.{specs.Char.{digit_value, is_ascii_hexdigit}, specs.List.{AllByRecursion, list_all}}
 use Rattle.std.specs.Str.{bytes_eq, IsAscii, IsUtf8}
-use Rattle.data_url.specs.{Percent.{percent_decoding}, Steps.Classes.{AreOf, is_marked}, Steps.Header.{header_parts}}
+use Rattle.data_url.specs.{Percent.{percent_decoding}, Steps.Classes.{AreOf, may_be_outside}, Steps.Header.{header_parts}}
 use Rattle.data_url.specs.{Steps.Header.{header_text}, Steps.Sets.{IsEntry, byte_encoding, in_set}}
 use Rattle.data_url.specs.Url.{in_path_end_set, percent_encoding, serialised, with_query, without_tabs_and_newlines}
 use Rattle.data_url.specs.Url.{in_path_set, in_query_set, before, after, encoded_byte, encoded_path, hex_digit}
@@ -306,7 +306,7 @@ first_bytes s n h i = let byte = h i in grind (arith, cases_lt i n, get_or-take,
 
 -- bytes at the start of a text that come before the first marked one of a stretch are written as they are
 pub kept_front : (p : ℕ → Bool) (class_table s x : List ℕ) (m n : ℕ)
-    → ((b : ℕ) → b < 256 → is_marked class_table b ≡ false → byte_encoding p b ≡ b ∷ [])
+    → ((b : ℕ) → b < 256 → may_be_outside class_table b ≡ false → byte_encoding p b ≡ b ∷ [])
     → ((i : ℕ) → get_or s i 0 < 256)
     → n ≤ length (take m s) → AreOf class_table (take m s) n → x ≡ take (length x) s → length x ≤ n
     → x ≡ encoded p x

@@ -72,6 +72,11 @@ trimmed_end_is p s t h = grind (arith, common_steps, end_len)
 pub end_stays : (p : ℕ → Bool) (t : List ℕ) → DoesNotEnd p t → without_end p t ≡ t
 end_stays p t e = sym (trimmed_end_is p t t (record { back = []; joined = sym (append-nil t); at_back = tt; ends = e }))
 
+-- so is a text without its longest prefix that passes, if it does not begin with a code point that passes
+pub start_stays : (p : ℕ → Bool) (s : List ℕ) → DoesNotBegin p s → without_start p s ≡ s
+start_stays p [] h = refl
+start_stays p (c ∷ s) h = grind (arith, h)
+
 -- if no code point of a class passes, a text of this class does not end with one that passes
 pub not_ends_every : (p q : ℕ → Bool) → ((c : ℕ) → q c ≡ true → p c ≡ false) → (t : List ℕ) → Every q t → DoesNotEnd p t
 not_ends_every p q n [] h = tt

@@ -31,9 +31,9 @@ abbrev pub classified : List ℕ → ℕ → ℕ
 classified class_table b = bit_and (slice_index class_table (bit_and b 15)) (slice_index COLUMNS (b / 16))
 
 -- false only for a byte of the class
-abbrev pub is_marked : List ℕ → ℕ → Bool
-is_marked class_table b = not (classified class_table b == 0)
+abbrev pub may_be_outside : List ℕ → ℕ → Bool
+may_be_outside class_table b = not (classified class_table b == 0)
 
 -- the first n bytes are not marked, so they are of the class
 abbrev pub AreOf : List ℕ → List ℕ → ℕ → Type 0
-AreOf class_table bytes n = (k : ℕ) → k < n → is_marked class_table (slice_index bytes k) ≡ false
+AreOf class_table bytes n = (k : ℕ) → k < n → may_be_outside class_table (slice_index bytes k) ≡ false

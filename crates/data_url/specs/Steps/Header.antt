@@ -3,6 +3,7 @@ use Rattle.std.specs.Prelude.{[], ◌++◌, ◌∷◌, ◌⊎◌, ◌<◌, ◌==
 use Rattle.std.specs.Prelude.{not, slice_index, string_bytes, ℕ}
 use Rattle.data_url.specs.Fetch.{has_base64_suffix, mime_text}
 use Rattle.data_url.specs.Mime.{IsRecordOf, IsWellformed, Record}
+use Rattle.data_url.specs.Steps.Parsing.{IsTrimmed}
 use Rattle.data_url.specs.Url.{before, after, without_tabs_and_newlines, encoded_path, in_path_set, in_query_set}
 use Rattle.data_url.specs.Url.{percent_encoding}
 
@@ -45,6 +46,11 @@ HasNoLastSpace path =
 -- each byte is a printable ASCII character (a space is one)
 abbrev pub IsPrintable : List ℕ → Type 0
 IsPrintable s = (i : ℕ) → i < length s → (32 ≤ slice_index s i) × (slice_index s i < 127)
+
+-- the text is printable, and neither begins nor ends with a space
+pub record IsMedia (s : List ℕ) : Type 0 where
+  pub printable : IsPrintable s
+  pub trimmed : IsTrimmed s
 
 -- m is the record of the text, or the default record, and is well-formed
 pub record IsRecordFor (text : List ℕ) (m : Record) : Type 0 where

@@ -7,7 +7,7 @@ use Rattle.std.specs.Prelude.{List, None, Option, Some, drop, false, length, map
 use Rattle.std.specs.Prelude.{zero, ℕ}
 use Rattle.std.specs.Str.{chars}
 use Rattle.data_url.specs.CodePoints.{ends_name, is_http_whitespace, is_quotable, is_semicolon, is_token}
-use Rattle.data_url.specs.Mime.{Every, IsHead, Item, Pair, has_name, is_lowercase_name, is_token_text, unless_empty}
+use Rattle.data_url.specs.Mime.{DoesNotBegin, Every, IsHead, Item, Pair, has_name, is_lowercase_name, is_token_text, unless_empty}
 use Rattle.data_url.specs.Mime.{valid_of}
 use Rattle.data_url.specs.Url.{without_end, without_start}
 use Rattle.data_url.specs.declared.mime.parse.Parameter.{Parameter}
@@ -36,6 +36,11 @@ pub record IsTrimmedEnd (p : ℕ → Bool) (s t : List ℕ) : Type 0 where
   pub joined : s ≡ t ++ back
   pub at_back : Every p back
   pub ends : DoesNotEnd p t
+
+-- the text neither begins nor ends with HTTP whitespace
+pub record IsTrimmed (s : List ℕ) : Type 0 where
+  pub begins : DoesNotBegin is_http_whitespace s
+  pub ends : DoesNotEnd is_http_whitespace s
 
 -- the text after c, if the text begins with c
 abbrev pub after_char : ℕ → List ℕ → Option (List ℕ)

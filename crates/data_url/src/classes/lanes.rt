@@ -4,7 +4,7 @@
 ghost use Rattle.std.specs.Prelude.{◌≡◌, ◌+◌, ◌++◌, ◌<◌, ◌≤◌};
 ghost use Rattle.std.specs.Prelude.{drop, length, map, not, replicate, take};
 ghost use Rattle.std.specs.{List.{list_all}, Simd.Lanes.{mask_l}};
-ghost use Rattle.data_url.specs.Steps.Classes.{AreOf, classified, is_marked};
+ghost use Rattle.data_url.specs.Steps.Classes.{AreOf, classified, may_be_outside};
 
 use std::simd::prelude::*;
 
@@ -107,7 +107,7 @@ fn classified(class_table: &[u8], block: u8x64) -> u8x64
 #[inline(always)]
 pub(crate) fn outside(class_table: &[u8], row: u8x16) -> u64
     requires { 16 ≤ length class_table.now }
-    ensures { result ≡ mask_l (map (is_marked class_table.now) row) }
+    ensures { result ≡ mask_l (map (may_be_outside class_table.now) row) }
 {
     let found = classified(class_table, repeated(row)).extract::<0, 16>();
     found.simd_ne(u8x16::splat(0)).to_bitmask()
@@ -116,9 +116,9 @@ pub(crate) fn outside(class_table: &[u8], row: u8x16) -> u64
 /// Returns whether no byte of a block may be outside the class of a table. As a test for a branch, this takes fewer
 /// instructions than `outside`.
 #[inline(always)]
-pub(crate) fn is_unmarked(class_table: &[u8], block: u8x64) -> bool
+pub(crate) fn none_outside(class_table: &[u8], block: u8x64) -> bool
     requires { 16 ≤ length class_table.now }
-    ensures { result ≡ list_all (λ b. not (is_marked class_table.now b)) block }
+    ensures { result ≡ list_all (λ b. not (may_be_outside class_table.now b)) block }
 {
     classified(class_table, block).reduce_or() == 0
 }
@@ -136,7 +136,7 @@ pub(crate) fn rows_len(class_table: [u8; 16], bytes: &[u8]) -> usize
         let row = row(bytes, at);
         // This comes before the test, so that the compiler puts the test at the end of the loop, which is faster.
         at += ROW;
-        if !is_unmarked(&class_table, repeated(row)) {
+        if !none_outside(&class_table, repeated(row)) {
             return at - ROW + outside(&class_table, row).trailing_zeros() as usize;
         }
     }

@@ -8,7 +8,7 @@ ghost use Rattle.data_url.specs.Base64.{group_bytes, group_number, groups, is_sy
 ghost use Rattle.data_url.specs.Steps.Groups.{is_symbol_or_space};
 ghost use Rattle.data_url.specs.Steps.Lanes.{DecodesFront, lane_value, number_bytes, numbers, twelves};
 
-use crate::classes::lanes::{is_unmarked, outside, repeated, row};
+use crate::classes::lanes::{none_outside, outside, repeated, row};
 use std::simd::prelude::*;
 
 /// For each byte, its value if it is a symbol, and 64 otherwise.
@@ -93,7 +93,7 @@ pub(crate) fn symbols_ahead(bytes: u8x16) -> usize
 pub(crate) fn is_of_symbols(bytes: u8x64) -> bool
     ensures { result ≡ list_all is_symbol bytes }
 {
-    is_unmarked(&SYMBOLS, bytes)
+    none_outside(&SYMBOLS, bytes)
 }
 
 /// Whether all bytes of a block are symbols or white space.
@@ -101,7 +101,7 @@ pub(crate) fn is_of_symbols(bytes: u8x64) -> bool
 pub(crate) fn is_spaced(bytes: u8x64) -> bool
     ensures { result ≡ list_all is_symbol_or_space bytes }
 {
-    is_unmarked(&SPACED, bytes)
+    none_outside(&SPACED, bytes)
 }
 
 /// The value of each symbol of a block. A byte that is no symbol gets a value too, which is of no use.

@@ -2,8 +2,8 @@
 //! section 3).
 #![tactic(auto, using(crate::proofs::mime::Parsing::cuts))]
 
-ghost use Rattle.std.specs.{Prelude.{◌≡◌, ◌<◌, [], None, Some, MatchOption, length, take}, Str.{chars}};
-ghost use Rattle.data_url.specs.{CodePoints.{is_http_whitespace, is_token}, Mime.{is_token_text}};
+ghost use Rattle.std.specs.{Prelude.{◌≡◌, ◌<◌, ◌∷◌, [], None, Some, MatchOption, length, take}, Str.{chars}};
+ghost use Rattle.data_url.specs.{CodePoints.{is_http_whitespace, is_token}, Mime.{BeginsParameters, is_token_text}};
 ghost use Rattle.data_url.specs.Url.{without_end, without_start};
 ghost use Rattle.data_url.specs.Steps.Parsing.{IsTokens, IsTrimmedEnd, after_char, front_of, in_name, in_value};
 
@@ -17,7 +17,7 @@ pub(super) fn without_leading_whitespace(text: &str) -> &str
 }
 
 /// The text without HTTP whitespace at its end.
-pub(super) fn without_trailing_whitespace(text: &str) -> &str
+pub(crate) fn without_trailing_whitespace(text: &str) -> &str
     ensures trimmed { IsTrimmedEnd is_http_whitespace (chars text.now) (chars result.now) }
     ensures without { chars result.now ≡ without_end is_http_whitespace (chars text.now) }
     ensures bytes { result.now ≡ take (length result.now) text.now }
@@ -37,6 +37,17 @@ pub(super) fn after_char(text: &str, c: u8) -> Option<&str>
         return None;
     }
     Some(&text[1..])
+}
+
+/// The text after its first character, which is `;`.
+#[inline(always)]
+#[tactic(auto, using(crate::proofs::mime::Parsing::past_semicolon))]
+pub(super) fn after_semicolon(text: &str) -> &str
+    requires begins { BeginsParameters (chars text.now) }
+    requires some { 0 < length text.now }
+    ensures { chars text.now ≡ 59 ∷ chars result.now }
+{
+    &text[1..]
 }
 
 /// The text from its first `;` on.

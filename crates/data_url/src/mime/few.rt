@@ -5,7 +5,7 @@ ghost use Rattle.std.specs.{Char.{to_ascii_lowercase}, Str.{bytes_eq, chars}};
 ghost use Rattle.data_url.specs.Mime.{BeginsParameters, has_name, is_token_text};
 ghost use Rattle.data_url.specs.Steps.Few.{AreMany, AreTokens, IsAdded, IsKept, sliced_pairs};
 
-use super::cuts::after_char;
+use super::cuts::after_semicolon;
 use super::parse::{Parameter, read_parameter};
 use super::values::Value;
 
@@ -51,8 +51,8 @@ impl<'a> FewParameters<'a> {
         ensures { MatchBool result (IsKept (chars text.now) self.new) (AreMany (chars text.now)) }
     {
         let mut rest = text;
-        while let Some(after) = after_char(rest, b';') {
-            let parameter = read_parameter(after);
+        while !rest.is_empty() {
+            let parameter = read_parameter(after_semicolon(rest));
             rest = parameter.rest;
             if !self.add(&parameter) {
                 return false;

@@ -1,11 +1,11 @@
 //! MIME types in parts: each text after its length.
 
-ghost use Rattle.std.specs.Prelude.{◌≡◌, ◌+◌, ◌<◌, IsTrue, encode_utf8_all, false, length, map};
+ghost use Rattle.std.specs.Prelude.{◌≡◌, ◌+◌, ◌<◌, ◌≤◌, IsTrue, encode_utf8_all, false, length, map};
 ghost use Rattle.std.specs.{Char.{to_ascii_lowercase}, Int.{to_le_bytes, w64}, List.{flat_map}, Str.{chars}};
 ghost use Rattle.data_url.specs.Mime.{BeginsParameters, IsRecordOfParts, default_record, is_token_text};
 ghost use Rattle.data_url.specs.Parts.{ReadsMimeType, WritesIfFits, part, parts_of, parts_of_pair};
 ghost use Rattle.data_url.specs.{MimeType.{pair_of}, Steps.Parsing.{unescaped}};
-ghost use Rattle.data_url.specs.Steps.Few.{AreAllTokens, sliced_pair, value_text};
+ghost use Rattle.data_url.specs.Steps.Few.{AreAllTokens, AreMany, sliced_pair, value_text};
 ghost use Rattle.data_url.specs.Steps.MimeParts.{HasTokens, Puts, WritesParts, WritesRecord, head_record};
 ghost use Rattle.data_url.specs.Steps.MimeParts.{pairs_in};
 
@@ -17,6 +17,9 @@ use super::{MimeFromStrError, MimeParsingError};
 use std::alloc::{AllocError, Global};
 use std::simd::prelude::*;
 
+/// How many bytes the length of a part takes.
+const LENGTH_LEN: usize = 8;
+
 /// The most bytes that parts have together.
 const LONGEST: usize = 0x7fff_ffff_ffff_ffff;
 
@@ -24,8 +27,36 @@ const LONGEST: usize = 0x7fff_ffff_ffff_ffff;
 const DEFAULT: &[u8; 56] = b"\x04\0\0\0\0\0\0\0text\x05\0\0\0\0\0\0\0plain\
 \x07\0\0\0\0\0\0\0charset\x08\0\0\0\0\0\0\0US-ASCII";
 
-/// Writes bytes to an output at a place, if they fit. Returns the place after them, whether or not they fit; at most
-/// `usize::MAX`.
+/// Writes bytes to an output at a place.
+#[inline(always)]
+fn write_at(output: &mut [u8], at: usize, bytes: &[u8])
+    requires { at + length bytes.now ≤ length output.old }
+    ensures { Puts bytes.now output.old at output.new (at + length bytes.now) }
+{
+    output[at..at + bytes.len()].copy_from_slice(bytes);
+}
+
+/// Writes bytes in ASCII lower case to an output at a place.
+#[inline(always)]
+fn write_lowercase_at(output: &mut [u8], at: usize, bytes: &[u8])
+    requires { at + length bytes.now ≤ length output.old }
+    ensures { Puts (map to_ascii_lowercase bytes.now) output.old at output.new
+        (at + length bytes.now) }
+{
+    copy_lowercase(bytes, &mut output[at..at + bytes.len()]);
+}
+
+/// Writes a length to an output at a place, as eight bytes, the lowest first, by one store.
+#[inline(always)]
+fn write_length_at(output: &mut [u8], at: usize, len: usize)
+    requires { at + 8 ≤ length output.old }
+    ensures { Puts (to_le_bytes w64 len) output.old at output.new (at + 8) }
+{
+    u8x8::from_array(len.to_le_bytes()).copy_to_slice(&mut output[at..]);
+}
+
+/// Puts bytes: writes them to an output at a place, if they fit. Returns the place after them, whether or not they fit;
+/// at most `usize::MAX`. So do the functions below.
 #[inline(always)]
 fn put(output: &mut [u8], at: usize, bytes: &[u8]) -> usize
     ensures puts { Puts bytes.now output.old at output.new result }
@@ -33,19 +64,7 @@ fn put(output: &mut [u8], at: usize, bytes: &[u8]) -> usize
 {
     let end = at.saturating_add(bytes.len());
     if end <= output.len() {
-        output[at..end].copy_from_slice(bytes);
-    }
-    end
-}
-
-/// Puts a length, as eight bytes, the lowest first. They are stored at once, where `put` would copy them.
-#[inline(always)]
-fn put_length(output: &mut [u8], at: usize, len: usize) -> usize
-    ensures { Puts (to_le_bytes w64 len) output.old at output.new result }
-{
-    let end = at.saturating_add(8);
-    if end <= output.len() {
-        u8x8::from_array(len.to_le_bytes()).copy_to_slice(&mut output[at..]);
+        write_at(output, at, bytes);
     }
     end
 }
@@ -55,18 +74,10 @@ fn put_length(output: &mut [u8], at: usize, len: usize) -> usize
 fn put_text(output: &mut [u8], at: usize, text: &str) -> usize
     ensures { Puts (part (encode_utf8_all (chars text.now))) output.old at output.new result }
 {
-    let at = put_length(output, at, text.len());
-    put(output, at, text.as_bytes())
-}
-
-/// Puts bytes in ASCII lower case.
-#[inline(always)]
-fn put_lowercase_bytes(output: &mut [u8], at: usize, bytes: &[u8]) -> usize
-    ensures { Puts (map to_ascii_lowercase bytes.now) output.old at output.new result }
-{
-    let end = at.saturating_add(bytes.len());
+    let end = at.saturating_add(LENGTH_LEN).saturating_add(text.len());
     if end <= output.len() {
-        copy_lowercase(bytes, &mut output[at..end]);
+        write_length_at(output, at, text.len());
+        write_at(output, at + LENGTH_LEN, text.as_bytes());
     }
     end
 }
@@ -78,8 +89,12 @@ fn put_lowercase(output: &mut [u8], at: usize, text: &str) -> usize
     ensures { Puts (part (encode_utf8_all (map to_ascii_lowercase (chars text.now)))) output.old at
         output.new result }
 {
-    let at = put_length(output, at, text.len());
-    put_lowercase_bytes(output, at, text.as_bytes())
+    let end = at.saturating_add(LENGTH_LEN).saturating_add(text.len());
+    if end <= output.len() {
+        write_length_at(output, at, text.len());
+        write_lowercase_at(output, at + LENGTH_LEN, text.as_bytes());
+    }
+    end
 }
 
 /// Puts the text of a quoted string without the `\` before a code point.
@@ -107,8 +122,12 @@ fn put_quoted(output: &mut [u8], at: usize, quoted: &str) -> usize
 {
     let bytes = quoted.as_bytes();
     let len = put_unescaped(&mut [], 0, bytes);
-    let at = put_length(output, at, len);
-    put_unescaped(output, at, bytes)
+    let end = at.saturating_add(LENGTH_LEN).saturating_add(len);
+    if end <= output.len() {
+        write_length_at(output, at, len);
+        put_unescaped(output, at + LENGTH_LEN, bytes);
+    }
+    end
 }
 
 /// Puts a value, as a part.
@@ -182,6 +201,7 @@ impl<'a> Head<'a> {
 
     /// Writes the record of a MIME type with these parts and parameters, in parts, to the start of an output, if it
     /// has room. Returns how many bytes the record has, or an error if they are more than `LONGEST`.
+    #[inline(always)]
     fn write_with(&self, parameters: Parameters<'_>, output: &mut [u8]) -> Result<usize, AllocError>
         requires type_ { IsTrue (is_token_text (chars self.now.type_.now)) }
         requires subtype { IsTrue (is_token_text (chars self.now.subtype.now)) }
@@ -201,6 +221,7 @@ impl<'a> Head<'a> {
 
     /// Writes the record of a MIME type with these parts, in parts, to the start of an output, if it has room.
     /// Returns how many bytes the record has. Allocates only if many parameters are kept.
+    #[inline(always)]
     pub(crate) fn write(&self, alloc: Global, output: &mut [u8]) -> Result<usize, AllocError>
         requires type_ { IsTrue (is_token_text (chars self.now.type_.now)) }
         requires subtype { IsTrue (is_token_text (chars self.now.subtype.now)) }
@@ -226,9 +247,23 @@ impl<'a> Head<'a> {
             result }
     {
         let mut few = FewParameters::new();
-        if few.read(self.parameters) {
-            return self.write_with(Parameters::OfText(&few.slices[..few.len]), output);
+        if !few.read(self.parameters) {
+            return self.write_many(alloc, output);
         }
+        self.write_with(Parameters::OfText(&few.slices[..few.len]), output)
+    }
+
+    /// Writes the record of a MIME type with these parts, of which more than eight parameters are kept, as `write` does.
+    #[inline(never)]
+    fn write_many(&self, alloc: Global, output: &mut [u8]) -> Result<usize, AllocError>
+        requires type_ { IsTrue (is_token_text (chars self.now.type_.now)) }
+        requires subtype { IsTrue (is_token_text (chars self.now.subtype.now)) }
+        requires parameters { BeginsParameters (chars self.now.parameters.now) }
+        requires many { AreMany (chars self.now.parameters.now) }
+        ensures { WritesParts (IsRecordOfParts (chars self.now.type_.now)
+            (chars self.now.subtype.now) (chars self.now.parameters.now)) output.old output.new
+            result }
+    {
         let Ok(pairs) = read_parameters(alloc, self.parameters) else {
             return Err(AllocError);
         };

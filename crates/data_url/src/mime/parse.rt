@@ -6,15 +6,15 @@ ghost use Rattle.std.specs.Str.{chars};
 ghost use Rattle.data_url.specs.Mime.{BeginsParameters, IsHead, Item, Items, is_token_text, kept_pairs, valid_of};
 ghost use Rattle.data_url.specs.Mime.{IsRecordOfParts};
 ghost use Rattle.data_url.specs.Url.{without_start};
-ghost use Rattle.data_url.specs.Steps.Parsing.{HasNoHead, given_reading, in_value, item_in, pair_in};
+ghost use Rattle.data_url.specs.Steps.Parsing.{HasNoHead, IsTrimmed, given_reading, in_value, item_in, pair_in};
 ghost use Rattle.data_url.specs.Steps.Parsing.{unquoted_reading, quotable_value, quoted_len, reading_in, unescaped};
 ghost use Rattle.data_url.specs.Steps.Parsing.{unless_named, value_of};
 ghost use Rattle.data_url.specs.{Steps.Kept.{IsIndexed, pairs_of}, MimeType.{pair_of, record_of}};
 
 use super::Mime;
 use super::cuts::{
-    after_char, from_semicolon, split_name, split_tokens, without_leading_whitespace,
-    without_trailing_whitespace,
+    after_char, after_semicolon, from_semicolon, split_name, split_tokens,
+    without_leading_whitespace, without_trailing_whitespace,
 };
 use super::kept::{FINGERPRINTS_LEN, KeptParameters};
 use super::lower::lowercased;
@@ -62,13 +62,23 @@ impl<'a> Head<'a> {
 
 /// The parts of a MIME type, if the text is one.
 #[inline(always)]
-#[tactic(auto, using(crate::proofs::mime::Parsing::heads))]
 pub(crate) fn read_head(text: &str) -> Option<Head<'_>>
     ensures { MatchOption result (HasNoHead (chars text.now))
         (λ h. IsHead (chars text.now) (chars h.type_.now) (chars h.subtype.now)
         (chars h.parameters.now)) }
 {
-    let text = without_trailing_whitespace(without_leading_whitespace(text));
+    read_trimmed_head(without_trailing_whitespace(without_leading_whitespace(text)))
+}
+
+/// The parts of a MIME type, if the text is one. It has no HTTP whitespace at its ends.
+#[inline(always)]
+#[tactic(auto, using(crate::proofs::mime::Parsing::heads))]
+pub(crate) fn read_trimmed_head(text: &str) -> Option<Head<'_>>
+    requires { IsTrimmed (chars text.now) }
+    ensures { MatchOption result (HasNoHead (chars text.now))
+        (λ h. IsHead (chars text.now) (chars h.type_.now) (chars h.subtype.now)
+        (chars h.parameters.now)) }
+{
     let (type_, rest) = split_tokens(text)?;
     let (subtype, rest) = split_tokens(after_char(rest, b'/')?)?;
     let parameters = without_leading_whitespace(rest);
@@ -82,17 +92,18 @@ pub(crate) fn read_head(text: &str) -> Option<Head<'_>>
     })
 }
 
-/// Returns the parts of the MIME type `text/plain` with the text after the subtype.
+/// Returns the parts of the MIME type `text/plain` with the text after the subtype. It has no HTTP whitespace at its ends.
 #[tactic(auto, using(crate::proofs::mime::Parsing::text_plain_head_is))]
 pub(crate) fn text_plain_head(parameters: &str) -> Head<'_>
-    requires { BeginsParameters (chars parameters.now) }
+    requires begins { BeginsParameters (chars parameters.now) }
+    requires trimmed { IsTrimmed (chars parameters.now) }
     ensures { IsHead (codes "text/plain" ++ chars parameters.now)
         (chars result.type_.now) (chars result.subtype.now) (chars result.parameters.now) }
 {
     Head {
         type_: "text",
         subtype: "plain",
-        parameters: without_trailing_whitespace(parameters),
+        parameters,
     }
 }
 
@@ -200,8 +211,8 @@ pub(super) fn read_parameters(
         later_names: BTreeSet::new(alloc),
     };
     let mut rest = text;
-    while let Some(after) = after_char(rest, b';') {
-        let parameter = read_parameter(after);
+    while !rest.is_empty() {
+        let parameter = read_parameter(after_semicolon(rest));
         rest = parameter.rest;
         keep(alloc, &mut kept, &parameter)?;
     }

@@ -7,7 +7,7 @@ ghost use Rattle.std.specs.{List.{list_all}, Option.{option_map}, Str.{chars}};
 ghost use Rattle.data_url.specs.{CodePoints.{is_quotable}, Steps.Few.{value_text}};
 ghost use Rattle.data_url.specs.{MimeType.{code_points}, Steps.Parsing.{unescaped, value_of}};
 
-use crate::classes::lanes::{ROW, is_unmarked, outside, put, repeated, row};
+use crate::classes::lanes::{ROW, none_outside, outside, put, repeated, row};
 use crate::classes::{Class, UNESCAPED, has, long_span};
 use std::alloc::{AllocError, Global};
 
@@ -115,7 +115,7 @@ fn copy_rows(text: &[u8], value: &mut [u8], len: usize) -> usize
     while text.len() - copied >= ROW {
         let row = row(text, copied);
         put(value, len + copied, row);
-        if !is_unmarked(&UNESCAPED, repeated(row)) {
+        if !none_outside(&UNESCAPED, repeated(row)) {
             return copied + outside(&UNESCAPED, row).trailing_zeros() as usize;
         }
         copied += ROW;

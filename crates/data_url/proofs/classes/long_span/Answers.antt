@@ -1,11 +1,11 @@
 use Rattle.std.proofs.{Common.{◌≡◌, ◌<◌, ℕ, arith, false, not, refl, true}, lemmas.List.{take_rest}}
-use Rattle.data_url.specs.Steps.{Classes.{in_class, is_marked}, Header.{is_no_question_mark}, Split.{is_unencoded_path}}
+use Rattle.data_url.specs.Steps.{Classes.{in_class, may_be_outside}, Header.{is_no_question_mark}, Split.{is_unencoded_path}}
 use Rattle.data_url.specs.Steps.Parsing.{is_escaped, is_quotable_byte, is_unquoted_byte}
 use Rattle.data_url.proofs.{classes.Rows.{all_marked, unmarked_passes}, texts.CodePoints.{front_further}}
 use Rattle.data_url.proofs.classes.long_span.Goals as goal
 
 -- a byte that the bits of the class do not mark is in the class
-unmarked : (c : goal.After-span) (b : ℕ) → b < 256 → is_marked c.match-class.class_table b ≡ false
+unmarked : (c : goal.After-span) (b : ℕ) → b < 256 → may_be_outside c.match-class.class_table b ≡ false
     → in_class c.args.class b ≡ true
 unfolding is_quotable_byte
 unmarked c = elim c.match-class.branch [

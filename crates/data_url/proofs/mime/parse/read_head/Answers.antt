@@ -1,19 +1,15 @@
-use Rattle.std.{proofs.Common.{◌≡◌, ◌==◌, arith, false, length}, specs.Str.{chars}}
-use Rattle.data_url.proofs.{mime.Parsing.{no_parameters, no_slash, no_subtype}, texts.CodePoints.{same_empty}}
+use Rattle.std.{proofs.Common.{ap, ◌∙◌}, specs.Str.{chars}}
+use Rattle.data_url.specs.{CodePoints.{is_http_whitespace}, Url.{without_end}}
+use Rattle.data_url.proofs.mime.Parsing.{head_of_trimmed, is_trimmed}
 use Rattle.data_url.proofs.mime.parse.read_head.Goals as goal
 
-pub returns-in_err-after_char : goal.returns-in_err-after_char
-returns-in_err-after_char c =
-    rw c.from_residual-in_err-after_char.ensures (no_slash c.in_ok-type_.ensures (cc) c.in_err-after_char.ensures)
+pub read_trimmed_head-requires : goal.read_trimmed_head-requires
+read_trimmed_head-requires c =
+    is_trimmed (chars c.args.text.now) _ _ c.without_leading_whitespace.ensures c.without_trailing_whitespace.ensures.trimmed
 
-pub returns-in_err-subtype : goal.returns-in_err-subtype
-returns-in_err-subtype c = rw c.from_residual-in_err-subtype.ensures (no_subtype c.in_ok-type_.ensures
-    (cc) _ c.in_ok-after_char.ensures c.in_err-subtype.ensures)
-
-pub returns-in_err-after_char-2 : goal.returns-in_err-after_char-2
-returns-in_err-after_char-2 c =
-    let p = c.without_leading_whitespace-parameters in
-    let n : (length (chars p.result.now) == 0) ≡ false = grind (arith, same_empty) in
-    rw c.from_residual-in_err-after_char-2.ensures (no_parameters c.in_ok-type_.ensures
-    (cc) _ c.in_ok-after_char.ensures _
-    c.in_ok-subtype.ensures p.ensures n c.in_err-after_char-2.ensures)
+pub returns : goal.returns
+returns c =
+    let start = c.without_leading_whitespace.ensures in
+    let text = c.without_trailing_whitespace.ensures in
+    head_of_trimmed _ c.read_trimmed_head.result (text.without ∙ ap (without_end is_http_whitespace) start)
+    (is_trimmed (chars c.args.text.now) _ _ start text.trimmed) c.read_trimmed_head.ensures

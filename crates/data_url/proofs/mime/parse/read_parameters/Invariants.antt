@@ -6,12 +6,12 @@ use denote.Shadow.{shadow}
 use denote.Text.{Utf8}
 use Rattle.data_url.proofs.mime.parse.read_parameters.Given as goal
 
-abbrev pub invariant-loop-after : goal.invariant-loop-after
-invariant-loop-after l = record {
+abbrev pub invariant-loop-rest : goal.invariant-loop-rest
+invariant-loop-rest l = record {
   text : shadow (Utf8 l.rest);
   keeps : KeepsOn (chars l.text) (chars l.rest) (pairs_of l.kept);
   indexed : IsIndexed l.kept;
 }
 
-abbrev pub decreases-loop-after : goal.decreases-loop-after
-decreases-loop-after l = length (chars l.rest)
+abbrev pub decreases-loop-rest : goal.decreases-loop-rest
+decreases-loop-rest l = length (chars l.rest)
