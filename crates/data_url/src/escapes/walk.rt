@@ -51,6 +51,7 @@ impl<'a> Walk<'a> {
 
     /// Returns the next bytes, at most `most` of them, or None if the body has ended: a long stretch of the text as
     /// it is, or shorter ones and the values of escapes, gathered in a buffer.
+    #[inline(always)]
     pub(crate) fn next_bytes<'r>(
         &mut self,
         buffer: &'r mut [u8; BUFFER_LEN],
