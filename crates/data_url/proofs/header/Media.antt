@@ -105,7 +105,7 @@ some_plain c t = elim (cases_Bool (c == 59)) [
   | inr e ↦ rw e (omega arith)
 ]
 
--- without whitespace at the end of a text that does not begin with it, the text of the MIME type is the same when trimmed
+-- without whitespace at the end of a text that does not begin with it, the text of the MIME type is the same, trimmed
 same_media : (x t : List ℕ) → DoesNotBegin is_http_whitespace x → IsTrimmedEnd is_http_whitespace x t
     → trimmed_of is_http_whitespace (with_plain t) ≡ trimmed_of is_http_whitespace (with_plain x)
 same_media [] [] b h = refl
@@ -115,7 +115,8 @@ same_media x (c ∷ t) b h =
     let begins : DoesNotBegin is_http_whitespace (c ∷ t) = rw h.joined at b in
     let z : IsTrimmed y = plain_trimmed c t (record { begins = begins; ends = h.ends }) in
     let whole : with_plain x ≡ y ++ h.back = ap with_plain h.joined ∙ plain_more c t h.back in
-    let start : DoesNotBegin is_http_whitespace (y ++ h.back) = begins_append is_http_whitespace y h.back z.begins (some_plain c t) in
+    let start : DoesNotBegin is_http_whitespace (y ++ h.back) =
+    begins_append is_http_whitespace y h.back z.begins (some_plain c t) in
     trimmed_stays y z
     ∙ trimmed_end_is is_http_whitespace (y ++ h.back) y (record {
       back = h.back;

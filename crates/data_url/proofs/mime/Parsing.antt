@@ -12,12 +12,15 @@ use Rattle.std.specs.{Str.{IsCharBoundary, IsUtf8, chars}, Char.{to_ascii_lowerc
 use Rattle.data_url.specs.{CodePoints.{is_http_whitespace, is_quotable, is_token}, Url.{without_end, without_start}}
 use Rattle.data_url.specs.Mime.{DoesNotBegin, Every, unless_empty, BeginsParameters, IsHead, is_token_text, valid_of}
 use Rattle.data_url.specs.Steps.Parsing.{DoesNotEnd, front_of, in_value, is_escaped, is_quotable_byte, is_unquoted_byte}
-use Rattle.data_url.specs.Steps.Parsing.{item_in, named, pair_if, reading, reading_in, IsTrimmed, IsTrimmedEnd, quotable_value}
+use Rattle.data_url.specs.Steps.Parsing.{item_in, named, pair_if, reading, reading_in, IsTrimmed, IsTrimmedEnd}
+use Rattle.data_url.specs.Steps.Parsing.{quotable_value}
 use Rattle.data_url.specs.Steps.Parsing.{unescaped, HasNoHead, IsTokens, after_char, in_name}
 use Rattle.data_url.specs.declared.mime.parse.Head.{Head}
-use Rattle.data_url.proofs.{examples.Literals.{on_literals}, texts.CodePoints.{after_begins, end_stays, same_empty, start_stays}}
+use Rattle.data_url.proofs.examples.Literals.{on_literals}
+use Rattle.data_url.proofs.texts.CodePoints.{after_begins, end_stays, same_empty, start_stays}
 use Rattle.data_url.proofs.texts.CodePoints.{trimmed_end_is, IsCutInto}
-use Rattle.data_url.proofs.{texts.CodePoints.{IsSteady, cut_front, cut_into, front_further, front_passes}, mime.Items.{has_parts}}
+use Rattle.data_url.proofs.texts.CodePoints.{IsSteady, cut_front, cut_into, front_further, front_passes}
+use Rattle.data_url.proofs.mime.Items.{has_parts}
 use Rattle.data_url.proofs.{mime.{Items.{trimmed_of}, TokenTexts.{values_steady, whole_front}}}
 use Rattle.data_url.proofs.mime.TokenTexts.{all_from_every, spaces_end, spaces_steady, tokens}
 use lib.Utf8.{encode}

@@ -12,7 +12,8 @@ use Rattle.std.{proofs.lemmas.Slice.{take-put_mid}, proofs.lemmas.Slice.Eq.{byte
 use Rattle.std.{proofs.lemmas.Str.{IsAscii-append, IsUtf8-from_ascii}, proofs.lemmas.Str.Ascii.{IsAscii-nil}}
 use Rattle.std.{specs.Char.{digit_value, is_ascii_hexdigit}, specs.List.{AllByRecursion, list_all}}
 use Rattle.std.specs.Str.{bytes_eq, IsAscii, IsUtf8}
-use Rattle.data_url.specs.{Percent.{percent_decoding}, Steps.Classes.{AreOf, may_be_outside}, Steps.Header.{header_parts}}
+use Rattle.data_url.specs.{Percent.{percent_decoding}, Steps.Classes.{AreOf, may_be_outside}}
+use Rattle.data_url.specs.Steps.Header.{header_parts}
 use Rattle.data_url.specs.{Steps.Header.{header_text}, Steps.Sets.{IsEntry, byte_encoding, in_set}}
 use Rattle.data_url.specs.Url.{in_path_end_set, percent_encoding, serialised, with_query, without_tabs_and_newlines}
 use Rattle.data_url.specs.Url.{in_path_set, in_query_set, before, after, encoded_byte, encoded_path, hex_digit}

@@ -253,7 +253,7 @@ impl<'a> Head<'a> {
         self.write_with(Parameters::OfText(&few.slices[..few.len]), output)
     }
 
-    /// Writes the record of a MIME type with these parts, of which more than eight parameters are kept, as `write` does.
+    /// Writes the record of a MIME type with these parts, as `write` does. More than eight parameters are kept.
     #[inline(never)]
     fn write_many(&self, alloc: Global, output: &mut [u8]) -> Result<usize, AllocError>
         requires type_ { IsTrue (is_token_text (chars self.now.type_.now)) }

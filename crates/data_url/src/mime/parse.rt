@@ -92,7 +92,8 @@ pub(crate) fn read_trimmed_head(text: &str) -> Option<Head<'_>>
     })
 }
 
-/// Returns the parts of the MIME type `text/plain` with the text after the subtype. It has no HTTP whitespace at its ends.
+/// Returns the parts of the MIME type `text/plain` with the text after the subtype, which has no HTTP whitespace at its
+/// ends.
 #[tactic(auto, using(crate::proofs::mime::Parsing::text_plain_head_is))]
 pub(crate) fn text_plain_head(parameters: &str) -> Head<'_>
     requires begins { BeginsParameters (chars parameters.now) }

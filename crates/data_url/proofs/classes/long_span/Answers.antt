@@ -1,5 +1,6 @@
 use Rattle.std.proofs.{Common.{◌≡◌, ◌<◌, ℕ, arith, false, not, refl, true}, lemmas.List.{take_rest}}
-use Rattle.data_url.specs.Steps.{Classes.{in_class, may_be_outside}, Header.{is_no_question_mark}, Split.{is_unencoded_path}}
+use Rattle.data_url.specs.Steps.{Classes.{in_class, may_be_outside}, Header.{is_no_question_mark}}
+use Rattle.data_url.specs.Steps.Split.{is_unencoded_path}
 use Rattle.data_url.specs.Steps.Parsing.{is_escaped, is_quotable_byte, is_unquoted_byte}
 use Rattle.data_url.proofs.{classes.Rows.{all_marked, unmarked_passes}, texts.CodePoints.{front_further}}
 use Rattle.data_url.proofs.classes.long_span.Goals as goal

@@ -5,7 +5,8 @@ use Rattle.data_url.proofs.mime.parse.read_head.Goals as goal
 
 pub read_trimmed_head-requires : goal.read_trimmed_head-requires
 read_trimmed_head-requires c =
-    is_trimmed (chars c.args.text.now) _ _ c.without_leading_whitespace.ensures c.without_trailing_whitespace.ensures.trimmed
+    is_trimmed (chars c.args.text.now) _ _ c.without_leading_whitespace.ensures
+    c.without_trailing_whitespace.ensures.trimmed
 
 pub returns : goal.returns
 returns c =

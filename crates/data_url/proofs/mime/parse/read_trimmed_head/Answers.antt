@@ -6,7 +6,8 @@ use Rattle.data_url.proofs.mime.parse.read_trimmed_head.Goals as goal
 
 pub returns-in_err-after_char : goal.returns-in_err-after_char
 returns-in_err-after_char c =
-    rw c.from_residual-in_err-after_char.ensures (no_slash c.in_ok-type_.ensures (sym (trimmed_stays _ c.requires)) c.in_err-after_char.ensures)
+    rw c.from_residual-in_err-after_char.ensures (no_slash c.in_ok-type_.ensures (sym (trimmed_stays _ c.requires))
+    c.in_err-after_char.ensures)
 
 pub returns-in_err-subtype : goal.returns-in_err-subtype
 returns-in_err-subtype c = rw c.from_residual-in_err-subtype.ensures (no_subtype c.in_ok-type_.ensures
