@@ -26,7 +26,7 @@ const SHORT_FRAGMENT: usize = 256;
 /// A vector of at most this many bytes keeps its room, whatever its length is.
 const SMALL: usize = 4096;
 
-/// How many bytes the length of a part has.
+/// How many bytes the length of a part takes.
 const LENGTH: usize = 8;
 
 /// How many bytes an output needs at least for the next bytes of a body.
@@ -189,7 +189,8 @@ unsafe fn text_of(bytes: &[u8]) -> &str {
 }
 
 /// The parts of a MIME type that are left: the type, the subtype, and the name and the value of each parameter. Each
-/// comes after its length. Only `open` and `mime_type` make one, of what the library wrote, so each part is UTF-8.
+/// comes after its length. Only `open` and `mime_type` make one, of what the library wrote, so each length is that of
+/// its part, and each part is UTF-8.
 #[derive(Clone)]
 pub(crate) struct Parts<'a>(&'a [u8]);
 
@@ -214,6 +215,7 @@ impl<'a> Iterator for Parts<'a> {
             return None;
         }
         // The library wrote each part, a text, after its length.
+        debug_assert!(LENGTH <= self.0.len());
         unsafe {
             let len = (self.0.as_ptr() as *const [u8; LENGTH]).read();
             let end = LENGTH + u64::from_le_bytes(len) as usize;
@@ -246,7 +248,8 @@ pub(crate) fn open<'a, T>(
         |out, room| unsafe { dataurl_open_parts_utf8(url.as_ptr(), url.len(), out, room) },
         |opened| (opened.status, opened.len),
         |opened, parts| {
-            // The library cuts the text after its comma, and before controls and spaces at its end.
+            // The tail begins after the comma, and ends where the text does or before controls and spaces at its end.
+            // So it is cut between characters.
             let tail = opened.tail..opened.tail + opened.tail_len;
             debug_assert!(url.get(tail.clone()).is_some());
             let tail = unsafe { url.get_unchecked(tail) };

@@ -14,7 +14,6 @@ pub use Rattle.data_url.proofs.forgiving_base64.Steps.{feeds_none, feeds_then, f
 pub use Rattle.data_url.proofs.forgiving_base64.Steps.{kind_left, left_more, padding_more, symbols_more}
 pub use Rattle.data_url.proofs.forgiving_base64.WholeTexts.{decodes_finished, decodes_keeps, decodes_reads}
 pub use Rattle.data_url.proofs.forgiving_base64.WholeTexts.{decodes_refused, fed_nothing}
-pub use Rattle.data_url.proofs.header.Ends.{flag_encoded, flag_false, flag_true, spelled_scheme}
 pub use Rattle.data_url.proofs.header.Stages.{body_of_url, bytes_by_place, bytes_trimmed, fragment_of_url, is_accepted}
 pub use Rattle.data_url.proofs.header.Stages.{lacks_comma, rest_bytes, scheme_has_no_comma, stages_accepted}
 pub use Rattle.data_url.proofs.header.{Serialising.{suffix_stop}, Stages.{stages_no_comma, stages_no_scheme}}

@@ -1,4 +1,3 @@
-pub mod Ends
 pub mod Media
 pub mod Serialising
 pub mod Stages

@@ -125,7 +125,8 @@ pub(crate) fn split_suffix(header: &str) -> (&str, bool)
     }
 }
 
-/// Returns the parts of the MIME type of a header without its suffix, if it has one. A missing type is `text/plain`.
+/// Returns the parts of the MIME type of a header without its suffix and without whitespace at its ends, if it has one.
+/// A missing type is `text/plain`.
 #[inline(always)]
 #[tactic(auto, using(crate::proofs::header::Stages::chars_printable, crate::proofs::header::Stages::begins_at))]
 fn media_head(media: &str) -> Option<Head<'_>>
@@ -140,7 +141,7 @@ fn media_head(media: &str) -> Option<Head<'_>>
     read_trimmed_head(media)
 }
 
-/// Returns the record of a header without its suffix, or the default record.
+/// Returns the record of a header without its suffix and without whitespace at its ends, or the default record.
 pub(crate) fn read_media(alloc: Global, media: &str) -> Result<Mime, AllocError>
     requires { IsMedia media.now }
     ensures { IfOk result (λ mime. IsRecordFor (with_plain media.now) (record_of mime)) }
@@ -151,8 +152,8 @@ pub(crate) fn read_media(alloc: Global, media: &str) -> Result<Mime, AllocError>
     }
 }
 
-/// Writes the record of a header without its suffix, or the default record, in parts to the start of an output that
-/// has room for it. Returns how many bytes it has.
+/// Writes the record that `read_media` returns, in parts, to the start of an output that has room for it. Returns how
+/// many bytes it has.
 pub(crate) fn write_media(
     alloc: Global,
     media: &str,

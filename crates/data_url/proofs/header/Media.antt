@@ -69,7 +69,7 @@ same_record m e h = record {
   wellformed = h.wellformed;
 }
 
--- a text that ends with one that does not end with a code point that passes does not either
+-- if a text that is not empty does not end with a code point that passes, neither does a text that ends with it
 ends_append : (p : ℕ → Bool) (a : List ℕ) (c : ℕ) (t : List ℕ) → DoesNotEnd p (c ∷ t) → DoesNotEnd p (a ++ c ∷ t)
 ends_append p [] c t h = h
 ends_append p (b ∷ []) c t h = h
@@ -86,7 +86,7 @@ plain_trimmed c t h = elim (cases_Bool (c == 59)) [
   | inr e ↦ rw e h
 ]
 
--- what follows a text follows it then, too
+-- `with_plain` of a text and more is `with_plain` of the text, and then more
 plain_more : (c : ℕ) (t back : List ℕ) → with_plain (c ∷ (t ++ back)) ≡ with_plain (c ∷ t) ++ back
 plain_more c t back = elim (cases_Bool (c == 59)) [
   | inl e ↦ rw e (sym (append_assoc (codes "text/plain") (c ∷ t) back))

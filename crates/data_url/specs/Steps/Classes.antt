@@ -34,6 +34,6 @@ classified class_table b = bit_and (slice_index class_table (bit_and b 15)) (sli
 abbrev pub may_be_outside : List ℕ → ℕ → Bool
 may_be_outside class_table b = not (classified class_table b == 0)
 
--- the first n bytes are not marked, so they are of the class
+-- none of the first n bytes may be outside the class, so they are of it
 abbrev pub AreOf : List ℕ → List ℕ → ℕ → Type 0
 AreOf class_table bytes n = (k : ℕ) → k < n → may_be_outside class_table (slice_index bytes k) ≡ false

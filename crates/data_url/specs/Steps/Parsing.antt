@@ -8,8 +8,7 @@ use Rattle.std.specs.Prelude.{zero, ℕ}
 use Rattle.std.specs.Str.{chars}
 use Rattle.data_url.specs.CodePoints.{ends_name, is_http_whitespace, is_quotable, is_semicolon, is_token}
 use Rattle.data_url.specs.Mime.{DoesNotBegin, Every, IsHead, Item, Pair, has_name, is_lowercase_name, is_token_text}
-use Rattle.data_url.specs.Mime.{unless_empty}
-use Rattle.data_url.specs.Mime.{valid_of}
+use Rattle.data_url.specs.Mime.{unless_empty, valid_of}
 use Rattle.data_url.specs.Url.{without_end, without_start}
 use Rattle.data_url.specs.declared.mime.parse.Parameter.{Parameter}
 use Rattle.data_url.specs.declared.mime.values.Value.TheVariants as slices

@@ -56,7 +56,7 @@ fn write_length_at(output: &mut [u8], at: usize, len: usize)
 }
 
 /// Puts bytes: writes them to an output at a place, if they fit. Returns the place after them, whether or not they fit;
-/// at most `usize::MAX`. So do the functions below.
+/// at most `usize::MAX`. So does each `put_` function below with what it puts, but `put_unescaped` tests each byte.
 #[inline(always)]
 fn put(output: &mut [u8], at: usize, bytes: &[u8]) -> usize
     ensures puts { Puts bytes.now output.old at output.new result }
@@ -253,7 +253,8 @@ impl<'a> Head<'a> {
         self.write_with(Parameters::OfText(&few.slices[..few.len]), output)
     }
 
-    /// Writes the record of a MIME type with these parts, as `write` does. More than eight parameters are kept.
+    /// Writes the record of a MIME type with these parts, as `write` does. It has more than eight parameters that are
+    /// kept.
     #[inline(never)]
     fn write_many(&self, alloc: Global, output: &mut [u8]) -> Result<usize, AllocError>
         requires type_ { IsTrue (is_token_text (chars self.now.type_.now)) }

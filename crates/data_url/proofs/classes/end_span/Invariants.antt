@@ -1,4 +1,4 @@
--- The bytes from this place on pass.
+-- The bytes from `end` on are in the class.
 use Rattle.std.proofs.Common.{◌≡◌, ◌<◌, ◌≤◌, get_or, length, true}
 use Rattle.data_url.specs.Steps.Classes.{in_class}
 use Rattle.data_url.proofs.classes.end_span.Given as goal
