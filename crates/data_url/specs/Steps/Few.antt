@@ -40,12 +40,14 @@ pub record AreTokens (few : FewParameters) : Type 0 where
   pub within : few.len ≤ 8
   pub tokens : AreAllTokens (kept_of few)
 
--- a parameter was added, if it is valid and has a new name; or there is no room for it, since it would be one more
--- than eight
+-- the pairs that are kept, and that of a parameter, if it is valid and has a new name
+abbrev pub pairs_with : FewParameters → Parameter → List Pair
+pairs_with few parameter = sliced_pairs few ++ unless_named (sliced_pairs few) (pair_in parameter)
+
+-- a parameter was added, or there is no room for it, since it would be one more than eight
 abbrev pub IsAdded : FewParameters → Parameter → Bool → FewParameters → Type 0
-IsAdded old parameter true new =
-    (sliced_pairs new ≡ sliced_pairs old ++ unless_named (sliced_pairs old) (pair_in parameter)) × AreTokens new
-IsAdded old parameter false new = 8 < length (sliced_pairs old ++ unless_named (sliced_pairs old) (pair_in parameter))
+IsAdded old parameter true new = (sliced_pairs new ≡ pairs_with old parameter) × AreTokens new
+IsAdded old parameter false new = 8 < length (pairs_with old parameter)
 
 -- the pairs that are kept of the text of the parameters are kept as slices
 pub record IsKept (text : List ℕ) (few : FewParameters) : Type 0 where

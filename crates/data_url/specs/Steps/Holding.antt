@@ -85,8 +85,8 @@ pub record EndsWithin {F E : Type 0} (step : F → List ℕ → Result (Unit {0}
   pub feeds : Feeds step d (take at text) (Err x) d'
 
 -- d reads the text up to its first fault, or the closure returns an error before that
-abbrev pub ReadsUntilFault : {F E : Type 0} → (F → List ℕ → Result (Unit {0}) E → F → Type 0) → State F → List ℕ
-    → Result (ℕ × Option Kind) (DecodeError E) → State F → Type 0
+abbrev pub ReadsUntilFault : {F E : Type 0} → (F → List ℕ → Result (Unit {0}) E → F → Type 0)
+    → State F → List ℕ → Result (ℕ × Option Kind) (DecodeError E) → State F → Type 0
 ReadsUntilFault step d text r d' =
     MatchResult r (λ read. ReadsTo step d text read.0 read.1 d') (λ x. EndsWithin step d text x d')
 
