@@ -1,6 +1,7 @@
 pub mod Padding
 pub mod Groups
 pub mod Vectors
+pub mod Joined
 pub mod Lanes
 pub mod Steps
 pub mod Holding

@@ -61,8 +61,9 @@ pub(crate) fn encode_next<'a: 'r, 'r>(
     let mut at = 0;
     for byte in part {
         let entry = entry(set, *byte);
+        let len = usize::from(entry[3]);
         buffer[at..at + 4].copy_from_slice(entry);
-        at += usize::from(entry[3]);
+        at += len;
     }
     (&buffer[..at], after_part)
 }

@@ -248,7 +248,7 @@ row_leaves_at text old new bytes row at n m k before room put decodes long is fe
     (row_long rest is (omega (arith, length-drop at text))) (front_symbols row rest m k front all spaces))
 
 -- a text with zeros after it begins with no more symbols than it has bytes
-symbols_end : (text : List ℕ) (after : ℕ) → prefix_len is_symbol (text ++ replicate after 0) ≤ length text
+pub symbols_end : (text : List ℕ) (after : ℕ) → prefix_len is_symbol (text ++ replicate after 0) ≤ length text
 symbols_end [] zero = omega arith
 symbols_end [] (suc after) = omega arith
 symbols_end (b ∷ text) after = grind (arith, symbols_end text after)

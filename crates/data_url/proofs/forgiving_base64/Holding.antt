@@ -95,7 +95,7 @@ none_from (Some x) e = absurd (true≢false e)
 module _ {F : Type 0} where
   -- if d has no padding, a text of symbols and white space completes the groups of its symbols, after those left over
   -- in d
-  completes_spaced : {d d' : State F} (t k : List ℕ) {bytes : List ℕ} → IsSound d.symbols d.padding → d.padding ≡ 0
+  pub completes_spaced : {d d' : State F} (t k : List ℕ) {bytes : List ℕ} → IsSound d.symbols d.padding → d.padding ≡ 0
       → list_all is_symbol_or_space t ≡ true → k ≡ filter is_symbol t
       → bytes ≡ groups (map symbol_value (d.symbols ++ k)) → d'.closure ≡ d.closure
       → d'.symbols ≡ after_groups (d.symbols ++ k) → d'.padding ≡ 0 → d'.failed ≡ false → Completes d t bytes d'
@@ -131,16 +131,12 @@ module _ {F : Type 0} where
     held_are = f.held_are;
   }
 
-  -- the first byte of a text, and then the bytes of the group that it completes, if any, after those that are held
-  pub gains_one : {d d' : State F} {held held' : List ℕ} (text more : List ℕ) → 1 ≤ length text
-      → Completes d (get_or text 0 0 ∷ []) more d' → held' ≡ held ++ more → Gains d held text 1 d' held'
-  gains_one [] more some a e = absurd (omega arith)
-  gains_one (c ∷ t) more some a e = grind arith
-
   -- the first byte of a text, which completes no group
   pub gains_none : {d d' : State F} {held held' : List ℕ} (text : List ℕ) → 1 ≤ length text
       → Completes d (get_or text 0 0 ∷ []) [] d' → held' ≡ held → Gains d held text 1 d' held'
-  gains_none {held = held} text some a e = gains_one text [] some a (e ∙ sym (append-nil held))
+  gains_none [] some a e = absurd (omega arith)
+  gains_none {held = held} (c ∷ t) some a e =
+      let same = e ∙ sym (append-nil held) in grind arith
 
 -- `len` is the number of bytes that are held
 pub held_len : (p : HeldGroups) → length (held_bytes p) ≡ p.len
@@ -230,6 +226,12 @@ module _ {F E : Type 0} (step : F → List ℕ → Result (Unit {0}) E → F →
   completes_lifted : {f : F} {failed : Bool} {d d' : State (Unit {0})} {t bytes : List ℕ} → failed ≡ false
       → Completes d t bytes d' → Completes (with_closure f failed d) t bytes (with_closure f failed d')
   completes_lifted going a = grind arith
+
+  -- some text is read without the closure
+  pub reads_whole : {f : F} {failed : Bool} {d d' : State (Unit {0})} {t bytes : List ℕ} → IsSound d.symbols d.padding
+      → failed ≡ false → Completes d t bytes d'
+      → ReadsHolding step (with_closure f failed d) t bytes (with_closure f failed d')
+  reads_whole s going a = reads_then (reads_none s going) (completes_lifted going a)
 
   -- the bytes of one more group of steps
   pub reads_gained : {d : State F} {f : F} {failed : Bool} {d1 d2 : State (Unit {0})} {held held' : List ℕ} (s : List ℕ)
@@ -345,6 +347,75 @@ module _ {F E : Type 0} (step : F → List ℕ → Result (Unit {0}) E → F →
   pub ends_within : {d d1 d2 : State F} {s held : List ℕ} {x : DecodeError E} (at : ℕ) → at ≤ length s
       → ReadsHolding step d (take at s) held d1 → Feeds step d (take at s) (Err x) d2 → EndsWithin step d s x d2
   ends_within at l r f = record { at = at; within = l; no_fault = r.no_fault; feeds = f }
+
+  -- a text is read, and then another one
+  reads_both : {d d1 d2 : State F} {t u held : List ℕ} → ReadsHolding step d t [] d1 → ReadsHolding step d1 u held d2
+      → ReadsHolding step d (t ++ u) held d2
+  reads_both {d} {d1} {d2} {t} {u} {held} r a =
+      let on = left_goes_on (left_over d ++ t) u r.no_fault r.left in
+      let same = append_assoc (left_over d) t u in
+      record {
+        run = r.run ++ a.run;
+        ran = run-append step r.run a.run d.closure d1.closure d2.closure r.ran r.accepted a.ran;
+        accepted = refusal-append r.run a.run r.accepted ∙ a.accepted;
+        calls = omega (arith, r.calls, a.calls, length-append t u, length-append r.run a.run);
+        no_fault = ap first_fault (sym same) ∙ none_from _ (on.fault_is ∙ ap is_some a.no_fault);
+        bytes_are = cc (
+          joined_pieces-append r.run a.run,
+          append_assoc (joined_pieces r.run) (joined_pieces a.run) held,
+          append-nil (joined_pieces r.run),
+          r.bytes_are,
+          a.bytes_are,
+          on.done_is,
+          same,
+        );
+        left = record {
+          symbols_are = a.left.symbols_are ∙ sym on.symbols_left ∙ ap left_symbols same;
+          padding_is = a.left.padding_is ∙ sym on.padding_left ∙ ap left_padding same;
+        };
+        going = a.going;
+      }
+
+  -- the first `at` bytes of a text are read, and then n bytes of the others
+  pub reads_on : {d d1 d2 : State F} {held : List ℕ} (s : List ℕ) (at n : ℕ) → ReadsHolding step d (take at s) [] d1
+      → ReadsHolding step d1 (take n (take (length s - at) (drop at s))) held d2
+      → ReadsHolding step d (take (at + n) s) held d2
+  reads_on s at n r a = rw (sym (taken_more s at n)) (reads_both r a)
+
+  -- the first `at` bytes of a text are read, and an error of the closure ends the feeding of the others
+  pub ends_on : {d d1 d2 : State F} {x : DecodeError E} (s : List ℕ) (at : ℕ) → at ≤ length s
+      → ReadsHolding step d (take at s) [] d1 → EndsWithin step d1 (take (length s - at) (drop at s)) x d2
+      → EndsWithin step d s x d2
+  ends_on {d} s at l r e =
+      let rest = take (length s - at) (drop at s) in
+      let on = left_goes_on (left_over d ++ take at s) (take e.at rest) r.no_fault r.left in
+      let same = append_assoc (left_over d) (take at s) (take e.at rest) in
+      let no_fault = ap first_fault (sym same) ∙ none_from _ (on.fault_is ∙ ap is_some e.no_fault) in
+      let more = taken_more s at e.at in
+      record {
+        at = at + e.at;
+        within = omega (arith, e.within, l, ap length (take_rest s at), length-drop at s);
+        no_fault = rw more at no_fault;
+        feeds = rw more at (feeds_then step (reads_feeds r) e.feeds);
+      }
+
+  -- the first `at` bytes of a text are read, and the others up to their first fault
+  pub reads_to_on : {d d1 d2 : State F} {place : ℕ} {fault : Option Kind} (s : List ℕ) (at : ℕ) → at ≤ length s
+      → ReadsHolding step d (take at s) [] d1 → ReadsTo step d1 (take (length s - at) (drop at s)) place fault d2
+      → ReadsTo step d s (at + place) fault d2
+  reads_to_on {place = place} {fault = None} s at l r t = record {
+    within = omega (arith, t.within, l, ap length (take_rest s at), length-drop at s);
+    reads = reads_on s at place r t.reads;
+    ends = omega (arith, t.ends, l, ap length (take_rest s at), length-drop at s);
+  }
+  reads_to_on {place = place} {fault = Some kind} s at l r t = record {
+    within = omega (arith, t.within, l, ap length (take_rest s at), length-drop at s);
+    reads = reads_on s at place r t.reads;
+    ends = (
+      omega (arith, t.ends.0, l, ap length (take_rest s at), length-drop at s),
+      rw (get_or-drop at s place 0) at (rw (take_rest s at) at t.ends.1),
+    );
+  }
 
   -- a block of symbols is read
   pub block_reads : {d d1 : State F} {bytes : List ℕ} (s : List ℕ) (at : ℕ) → IsBetweenGroups d1 → at + 64 ≤ length s

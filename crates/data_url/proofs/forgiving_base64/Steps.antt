@@ -3,11 +3,11 @@ use Rattle.std.proofs.Common.{append_assoc, MatchOption, MatchBool, MatchResult,
 use Rattle.std.proofs.Common.{◌∷◌, ◌++◌, length, map, min, replicate, None, Some, Result, Ok, Err, refl, ap, ap₂, sym}
 use Rattle.std.proofs.Common.{◌≡◌, ℕ, suc, zero, ◌+◌, ◌%◌, ◌≤◌, Bool, true, false, cond, eqb, get_or, take, List, []}
 use Rattle.std.proofs.Common.{◌≢◌, ◌⊎◌, inl, inr, ◌∙◌, subst, arith, length-append, length-take, drop, Option}
-use Rattle.std.proofs.{Common.{set, ◌<◌}, lemmas.List.Folds.{list_all-append}, lemmas.List.Sums.{AllPass-from_list_all}}
+use Rattle.std.proofs.{Common.{◌<◌}, lemmas.List.Sums.{AllPass-from_list_all}}
 use Rattle.std.{proofs.lemmas.Bool.{false≢true, true≢false}, specs.List.{filter, list_all, list_any}}
 use Rattle.std.specs.Result.{result_err}
 use Rattle.std.{proofs.lemmas.List.Elements.{filter-append}, specs.Char.{is_ascii_whitespace}, specs.Option.{option_or}}
-use Rattle.std.proofs.lemmas.List.{get_or-take, length-map, length-replicate, nil_from_length, take_more_set}
+use Rattle.std.proofs.lemmas.List.{get_or-take, length-map, length-replicate, nil_from_length}
 use Rattle.data_url.specs.Base64.{after_groups, decoded, complete_bytes, first_fault, group_bytes, group_number, groups}
 use Rattle.data_url.specs.Base64.{is_symbol, is_valid, kind_of, left_padding, left_symbols, left_text, rest_bytes}
 use Rattle.data_url.specs.{Base64.{symbol_value, values}, Mime.{Every}, Run.{IsRun, IsPrefix, joined_pieces, refusal}}
@@ -143,14 +143,6 @@ fault_symbol c e = let k = symbol_alone (classes c) e in fault_one c false false
 pub fault_after : (c : ℕ) → is_symbol c ≡ true → fault_byte true (c ∷ []) ≡ Some c
 fault_after c e = let k = symbol_alone (classes c) e in fault_one c true false false true k.0 k.1 e
 
--- the symbols of a text of one symbol are that symbol
-pub symbols_symbol : (c : ℕ) → is_symbol c ≡ true → filter is_symbol (c ∷ []) ≡ c ∷ []
-symbols_symbol c e = filter_one is_symbol c true e
-
--- a symbol has no '='
-pub pads_symbol : (c : ℕ) → is_symbol c ≡ true → filter is_pad (c ∷ []) ≡ []
-pads_symbol c e = filter_one is_pad c false (symbol_alone (classes c) e).1
-
 -- a byte that is neither whitespace nor '=' nor a symbol is a fault
 pub fault_other : (c : ℕ) (s : Bool) → is_ascii_whitespace c ≡ false → is_pad c ≡ false → is_symbol c ≡ false
     → fault_byte s (c ∷ []) ≡ Some c
@@ -163,26 +155,12 @@ has_pad_some (suc p) h = refl
 
 -- Groups of four and what is left over, written out
 
--- the first three items of a list of three items, written out
-pub three_items : (s : List ℕ) (n : ℕ) → length s ≡ 3 → n ≡ 3
-    → take n s ≡ get_or s 0 0 ∷ get_or s 1 0 ∷ get_or s 2 0 ∷ []
-three_items (a ∷ b ∷ c ∷ []) n l e = rw e refl
-three_items [] n l e = absurd (omega arith)
-three_items (a ∷ []) n l e = absurd (omega arith)
-three_items (a ∷ b ∷ []) n l e = absurd (omega arith)
-three_items (a ∷ b ∷ c ∷ f ∷ t) n l e = absurd (omega arith)
-
 -- each of the symbols that are kept is a symbol
 pub kept_symbol : (s : List ℕ) (n i : ℕ) → i < n → n ≤ length s → list_all is_symbol (take n s) ≡ true
     → is_symbol (get_or s i 0) ≡ true
 kept_symbol s n i l w a =
     sym (ap is_symbol (get_or-take n s i 0 l))
     ∙ AllPass-from_list_all is_symbol (take n s) a i 0 (omega (arith, length-take n s))
-
--- so is each after one more is kept
-pub more_symbols : (s : List ℕ) (n c : ℕ) → n < length s → list_all is_symbol (take n s) ≡ true → is_symbol c ≡ true
-    → list_all is_symbol (take (n + 1) (set s n c)) ≡ true
-more_symbols s n c l a h = cc (take_more_set s n c l, list_all-append is_symbol (take n s) (c ∷ []))
 
 -- the byte of two symbols left over is the first byte of the group that they begin
 pub decoded_two : (s : List ℕ) (n p : ℕ) → n ≡ 2 → length s ≡ 3 → Every is_symbol (take n s)
@@ -255,18 +233,6 @@ module _ {F : Type 0} where
   completes_quiet {d} t k n s good is_k is_n few same symbols padding failed =
       search (arith, completes_text, groups_few, length-map, after_few)
 
-  -- d reads a symbol after at most two symbols and no padding: it keeps the symbol, and no group is complete
-  pub completes_kept : {d d' : State F} (c : ℕ) → IsSound d.symbols d.padding → length d.symbols + 1 ≤ 3 → d.padding ≡ 0
-      → is_symbol c ≡ true → d'.closure ≡ d.closure → d'.symbols ≡ d.symbols ++ c ∷ [] → d'.padding ≡ d.padding
-      → d'.failed ≡ false → Completes d (c ∷ []) [] d'
-  completes_kept {d} c s few none symbol same symbols padding failed =
-      completes_quiet (c ∷ []) (c ∷ []) 0 s
-      (ap (λ p. fault_byte (has_pad p) (c ∷ [])) none ∙ fault_symbol c symbol)
-      (symbols_symbol c symbol)
-      (ap length (pads_symbol c symbol))
-      (omega (arith, few, length-append d.symbols (c ∷ [])))
-      same symbols (padding ∙ none ∙ ap (λ p. min (p + 0) 3) (sym none)) failed
-
   -- d reads a byte of whitespace, and does not change
   pub completes_space : {d : State F} (c : ℕ) → IsSound d.symbols d.padding
       → is_ascii_whitespace c ≡ true → d.failed ≡ false → Completes d (c ∷ []) [] d
@@ -288,21 +254,6 @@ module _ {F : Type 0} where
       rw (e, same) (completes_quiet (61 ∷ []) [] 1 s (fault_pads 1 (has_pad d.padding)) refl refl
       (rw append-nil s.few) refl
       (sym (append-nil d.symbols)) refl going)
-
-  -- the fourth symbol completes a group
-  pub completes_group : {d d' : State F} (x y z c : ℕ) (group : List ℕ) → IsSound d.symbols d.padding
-      → d.symbols ≡ x ∷ y ∷ z ∷ [] → d.padding ≡ 0 → is_symbol c ≡ true
-      → group ≡ group_bytes (group_number (symbol_value x) (symbol_value y) (symbol_value z) (symbol_value c))
-      → d'.closure ≡ d.closure → d'.symbols ≡ [] → d'.padding ≡ 0 → d'.failed ≡ false → Completes d (c ∷ []) group d'
-  unfolding groups after_groups
-  completes_group {d} {d'} x y z c group s is_q is_p symbol is_group same symbols padding failed =
-      let all : d.symbols ++ c ∷ [] ≡ x ∷ y ∷ z ∷ c ∷ [] = ap (λ k. k ++ c ∷ []) is_q in
-      completes_text (c ∷ []) (c ∷ []) group 0 s
-      (ap (λ p. fault_byte (has_pad p) (c ∷ [])) is_p ∙ fault_symbol c symbol)
-      (symbols_symbol c symbol)
-      (ap length (pads_symbol c symbol))
-      (is_group ∙ sym (ap (λ k. groups (map symbol_value k)) all)) same (symbols ∙ sym (ap after_groups all))
-      (padding ∙ ap (λ p. min (p + 0) 3) (sym is_p)) failed
 
   -- what a byte that is a fault leaves of what was left over
   ruleset refusing = (fault_some, fault_more, kind_is, done_is, before-append, fault_text, before_one)

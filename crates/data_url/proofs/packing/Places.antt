@@ -13,27 +13,27 @@ use Rattle.data_url.specs.{Steps.Groups.{clear}, declared.packing.TheConstants.{
 use lib.{Dec.{T}, Lanes.{Each1, all_below, pick_l, zip2}}
 
 -- for at most 16 indices below 16, a swizzle looks up the item at each index
-looked_at : (t js : List ℕ) (i : ℕ) → i + length js ≤ 16 → Each1 (λ j. j < 16) js
+pub looked_at : (t js : List ℕ) (i : ℕ) → i + length js ≤ 16 → Each1 (λ j. j < 16) js
     → swz_l w8 16 t i js ≡ map (λ j. get_or t j 0) js
 looked_at t [] i long small = refl
 looked_at t (j ∷ js) i long small = grind (arith, looked_at t js (suc i) (omega arith) small.1)
 
--- whether all items are below 8
-abbrev are_small : List ℕ → Bool
-are_small [] = true
-are_small (x ∷ xs) = ltb x 8 && are_small xs
+-- whether all items are below n
+abbrev pub are_small : ℕ → List ℕ → Bool
+are_small n [] = true
+are_small n (x ∷ xs) = ltb x n && are_small n xs
 
--- items that are small are below 8
-small_each : (xs : List ℕ) → are_small xs ≡ true → Each1 (λ p. p < 8) xs
-small_each [] h = tt
-small_each (x ∷ xs) h =
-    let p = and_parts (ltb x 8) (are_small xs) h in (ltb-true x 8 p.0, small_each xs p.1)
+-- items that are small are below n
+pub small_each : (n : ℕ) (xs : List ℕ) → are_small n xs ≡ true → Each1 (λ p. p < n) xs
+small_each n [] h = tt
+small_each n (x ∷ xs) h =
+    let p = and_parts (ltb x n) (are_small n xs) h in (ltb-true x n p.0, small_each n xs p.1)
 
 -- the entry of eight bits begins with the places of the bits that are 0
 abbrev is_right : ℕ → Bool
 is_right eight = alike (take (8 - count_ones eight) (take 16 (drop (8 * eight) PLACES))) (clear (range_with_len 0
     8) eight)
-    && (ltb (count_ones eight) 9 && are_small (take 16 (drop (8 * eight) PLACES)))
+    && (ltb (count_ones eight) 9 && are_small 8 (take 16 (drop (8 * eight) PLACES)))
 
 -- all entries do
 right : (eight : ℕ) → eight < 256 → is_right eight ≡ true
@@ -47,7 +47,7 @@ places_are eight l = alike_same _ _ (and_parts _ _ (right eight l)).0
 
 -- all places of an entry, and of what is read after it, are below 8
 pub places_small : (eight : ℕ) → eight < 256 → Each1 (λ p. p < 8) (take 16 (drop (8 * eight) PLACES))
-places_small eight l = small_each _ (and_parts _ _ (and_parts _ _ (right eight l)).1).1
+places_small eight l = small_each 8 _ (and_parts _ _ (and_parts _ _ (right eight l)).1).1
 
 -- an entry and what is read after it are sixteen bytes
 pub places_long : (eight : ℕ) → eight < 256 → length (take 16 (drop (8 * eight) PLACES)) ≡ 16

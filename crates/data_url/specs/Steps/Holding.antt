@@ -84,6 +84,13 @@ pub record EndsWithin {F E : Type 0} (step : F → List ℕ → Result (Unit {0}
   pub no_fault : first_fault (left_over d ++ take at text) ≡ None
   pub feeds : Feeds step d (take at text) (Err x) d'
 
+-- d reads some bytes that the text begins with, and holds no bytes, or the closure returns an error
+abbrev pub ReadsStart : {F E : Type 0} → (F → List ℕ → Result (Unit {0}) E → F → Type 0) → State F → List ℕ
+    → Result ℕ (DecodeError E) → State F → Type 0
+ReadsStart step d text r d' =
+    MatchResult r (λ taken. (taken ≤ length text) × ReadsHolding step d (take taken text) [] d')
+    (λ x. EndsWithin step d text x d')
+
 -- d reads the text up to its first fault, or the closure returns an error before that
 abbrev pub ReadsUntilFault : {F E : Type 0} → (F → List ℕ → Result (Unit {0}) E → F → Type 0)
     → State F → List ℕ → Result (ℕ × Option Kind) (DecodeError E) → State F → Type 0

@@ -38,8 +38,11 @@ pub(crate) fn put(bytes: &mut [u8], at: usize, row: u8x16)
     row.copy_to_slice(&mut bytes[at..]);
 }
 
-/// The places in a row, in order.
-const PLACES: [u8; 16] = [0, 1, 2, 3, 4, 5, 6, 7, 8, 9, 10, 11, 12, 13, 14, 15];
+/// The places in a row, twice.
+const PLACES: [u8; 32] = [
+    0, 1, 2, 3, 4, 5, 6, 7, 8, 9, 10, 11, 12, 13, 14, 15, 0, 1, 2, 3, 4, 5, 6, 7, 8, 9, 10, 11, 12,
+    13, 14, 15,
+];
 
 /// Returns the first `at` bytes of a row, and then those of another one from there on.
 #[inline(always)]
@@ -52,26 +55,63 @@ pub(crate) fn spliced(first: u8x16, second: u8x16, at: usize) -> u8x16
         .select(first, second)
 }
 
+/// Returns the bytes of a row from a place on, and then those before it.
+#[inline(always)]
+pub(crate) fn rotated(bytes: u8x16, at: usize) -> u8x16
+    requires { at ≤ 16 }
+    ensures { result ≡ drop at bytes ++ take at bytes }
+{
+    bytes.swizzle_dyn(row(&PLACES, at))
+}
+
 /// The places in a quarter of a row, four times.
 const QUARTER_FOUR_TIMES: [usize; 16] = [0, 1, 2, 3, 0, 1, 2, 3, 0, 1, 2, 3, 0, 1, 2, 3];
 
 /// The places in half a row, twice.
 const HALF_TWICE: [usize; 16] = [0, 1, 2, 3, 4, 5, 6, 7, 0, 1, 2, 3, 4, 5, 6, 7];
 
-/// Returns a row that has the first eight bytes of a text, or the first four if it has fewer than eight, and then
-/// zeros.
+/// Returns a row of the four bytes of a text from a place on, and then zeros.
 #[inline(always)]
-pub(crate) fn short_row(text: &[u8]) -> u8x16
-    requires { 4 ≤ length text.now }
-    ensures len { length result ≡ 16 }
-    ensures four { length text.now < 8 → result ≡ take 4 text.now ++ replicate 12 0 }
-    ensures eight { 8 ≤ length text.now → result ≡ take 8 text.now ++ replicate 8 0 }
+fn quarter(text: &[u8], at: usize) -> u8x16
+    requires { at + 4 ≤ length text.now }
+    ensures { result ≡ take 4 (drop at text.now) ++ replicate 12 0 }
 {
-    let zeros = u8x16::splat(0);
-    if text.len() < 8 {
-        return spliced(u8x4::from_slice(text).swizzle(QUARTER_FOUR_TIMES), zeros, 4);
+    let bytes = u8x4::from_slice(&text[at..]);
+    spliced(bytes.swizzle(QUARTER_FOUR_TIMES), u8x16::splat(0), 4)
+}
+
+/// Returns a row of the eight bytes of a text from a place on, and then zeros.
+#[inline(always)]
+fn half(text: &[u8], at: usize) -> u8x16
+    requires { at + 8 ≤ length text.now }
+    ensures { result ≡ take 8 (drop at text.now) ++ replicate 8 0 }
+{
+    let bytes = u8x8::from_slice(&text[at..]);
+    spliced(bytes.swizzle(HALF_TWICE), u8x16::splat(0), 8)
+}
+
+/// Returns the row that a text begins with. If the text is shorter, zeros follow it.
+#[inline(always)]
+pub(crate) fn first_row(text: &[u8]) -> u8x16
+    ensures { result ≡ take 16 (text.now ++ replicate 16 0) }
+{
+    let len = text.len();
+    if len >= ROW {
+        return row(text, 0);
     }
-    spliced(u8x8::from_slice(text).swizzle(HALF_TWICE), zeros, 8)
+    if len >= 8 {
+        return spliced(half(text, 0), rotated(half(text, len - 8), 24 - len), 8);
+    }
+    if len >= 4 {
+        return spliced(
+            quarter(text, 0),
+            rotated(quarter(text, len - 4), 20 - len),
+            4,
+        );
+    }
+    let mut bytes = [0; ROW];
+    bytes[..len].copy_from_slice(text);
+    u8x16::from_array(bytes)
 }
 
 /// The places in a row, four times.

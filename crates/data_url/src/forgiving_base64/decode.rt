@@ -1,8 +1,8 @@
 //! Decoding piece by piece (Infra Standard, forgiving-base64 decode).
 
-ghost use Rattle.std.specs.Prelude.{◌≡◌, ◌%◌, ◌≤◌, [], Err, MatchResult, length, take, true, false};
+ghost use Rattle.std.specs.Prelude.{◌≡◌, ◌%◌, ◌≤◌, Err, length, true, false};
 
-use super::alphabet::{decode_block, group_of, is_of_symbols};
+use super::alphabet::{decode_block, group_of, is_of_symbols, is_symbol};
 use super::held::{FULL, HeldGroups};
 use super::left_over::LeftOver;
 use super::{DecodeError, InvalidBase64, InvalidBase64Details};
@@ -34,8 +34,8 @@ where
 {
     ghost use Rattle.std.specs.Fn.{CalledAt};
     ghost use Rattle.data_url.specs.Decoder.{Feeds, Finishes, start, state_of};
-    ghost use Rattle.data_url.specs.Steps.Holding.{CallsOnce, EndsWithin, FeedsUnescaped};
-    ghost use Rattle.data_url.specs.Steps.Holding.{Flushes, ReadsHolding, ReadsUntilFault};
+    ghost use Rattle.data_url.specs.Steps.Holding.{CallsOnce, FeedsUnescaped, Flushes, ReadsStart};
+    ghost use Rattle.data_url.specs.Steps.Holding.{ReadsUntilFault};
     ghost use Rattle.data_url.specs.Steps.Parts.{HoldsLeft, IsResumed};
 
     /// Returns a decoder that has been fed nothing yet. The closure has to accept any bytes, whatever it was called
@@ -140,11 +140,8 @@ where
         requires callable { F.IsAlwaysCallable (state_of self.old).closure }
         requires going { (state_of self.old).failed ≡ false }
         ensures callable { F.IsAlwaysCallable (state_of self.new).closure }
-        ensures read { MatchResult result
-            (λ taken. (taken ≤ length text.now) × ReadsHolding (CalledAt F.FnMut)
-            (state_of self.old) (take taken text.now) [] (state_of self.new))
-            (λ error. EndsWithin (CalledAt F.FnMut) (state_of self.old) text.now error
-            (state_of self.new)) }
+        ensures read { ReadsStart (CalledAt F.FnMut) (state_of self.old) text.now result
+            (state_of self.new) }
     {
         if !self.state.is_between_groups() {
             return Ok(0);
@@ -164,10 +161,52 @@ where
         Ok(at)
     }
 
-    /// Feeds a text up to its first fault: calls the closure with the bytes of the groups before it. Returns the place
-    /// of the fault and its kind, or the length of the text and None if there is no fault.
+    /// Calls the closure with the bytes of the groups that the symbols at the start of a text complete. It reads up to
+    /// 64 symbols, with those left over. Returns how many bytes of the text were read.
     #[inline(always)]
-    fn feed_until_fault(
+    fn read_front(&mut self, text: &[u8]) -> Result<usize, DecodeError<E>>
+        requires no_padding { (state_of self.old).padding ≡ 0 }
+        requires callable { F.IsAlwaysCallable (state_of self.old).closure }
+        requires going { (state_of self.old).failed ≡ false }
+        ensures callable { F.IsAlwaysCallable (state_of self.new).closure }
+        ensures read { ReadsStart (CalledAt F.FnMut) (state_of self.old) text.now result
+            (state_of self.new) }
+    {
+        let mut bytes = [0; BLOCK];
+        let (read, len) = self.state.decode_front(text, &mut bytes);
+        if len == 0 {
+            return Ok(read);
+        }
+        self.write(&bytes[..len])?;
+        Ok(read)
+    }
+
+    /// Calls the closure with the bytes of the blocks that a text begins with. If fewer than 64 bytes follow, or if
+    /// something is left over of the text before, also calls it with those of the symbols that follow. Returns how many
+    /// bytes of the text were read.
+    #[inline(always)]
+    fn read_start(&mut self, text: &[u8]) -> Result<usize, DecodeError<E>>
+        requires callable { F.IsAlwaysCallable (state_of self.old).closure }
+        requires going { (state_of self.old).failed ≡ false }
+        ensures callable { F.IsAlwaysCallable (state_of self.new).closure }
+        ensures read { ReadsStart (CalledAt F.FnMut) (state_of self.old) text.now result
+            (state_of self.new) }
+    {
+        let taken = self.read_blocks(text)?;
+        if text.len() - taken >= BLOCK && self.state.is_between_groups() {
+            return Ok(taken);
+        }
+        if taken == text.len() || !is_symbol(text[taken]) || self.state.padding > 0 {
+            return Ok(taken);
+        }
+        let more = self.read_front(&text[taken..])?;
+        Ok(taken + more)
+    }
+
+    /// Feeds a text up to its first fault, as `feed_until_fault` does, in groups that are held until there are 64. A
+    /// text that begins with many blocks of symbols is fed faster in blocks.
+    #[inline(always)]
+    fn feed_groups(
         &mut self,
         text: &[u8],
     ) -> Result<(usize, Option<InvalidBase64Details>), DecodeError<E>>
@@ -177,8 +216,8 @@ where
         ensures read { ReadsUntilFault (CalledAt F.FnMut) (state_of self.old) text.now result
             (state_of self.new) }
     {
-        let mut at = self.read_blocks(text)?;
         let mut groups = HeldGroups::new();
+        let mut at = 0;
         while at < text.len() {
             match self.state.read_groups_or_byte(&text[at..], &mut groups) {
                 Ok(taken) => at += taken,
@@ -194,6 +233,27 @@ where
         }
         self.flush(groups.as_slice())?;
         Ok((at, None))
+    }
+
+    /// Feeds a text up to its first fault: calls the closure with the bytes of the groups before it. Returns the place
+    /// of the fault and its kind, or the length of the text and None if there is no fault.
+    #[inline(always)]
+    fn feed_until_fault(
+        &mut self,
+        text: &[u8],
+    ) -> Result<(usize, Option<InvalidBase64Details>), DecodeError<E>>
+        requires callable { F.IsAlwaysCallable (state_of self.old).closure }
+        requires going { (state_of self.old).failed ≡ false }
+        ensures callable { F.IsAlwaysCallable (state_of self.new).closure }
+        ensures read { ReadsUntilFault (CalledAt F.FnMut) (state_of self.old) text.now result
+            (state_of self.new) }
+    {
+        let at = self.read_start(text)?;
+        if at == text.len() {
+            return Ok((at, None));
+        }
+        let (place, fault) = self.feed_groups(&text[at..])?;
+        Ok((at + place, fault))
     }
 
     /// Decodes the next part of the text, in an encoding that contains ASCII. Calls the closure with the bytes of

@@ -49,15 +49,4 @@ impl HeldGroups {
         self.bytes.copy_within(FULL..208, 0);
         self.len -= FULL;
     }
-
-    /// Adds the bytes of a group.
-    #[inline(always)]
-    pub(crate) fn push(&mut self, group: [u8; 3])
-        requires room { self.old.len < 192 }
-        ensures bytes { held_bytes self.new ≡ held_bytes self.old ++ group }
-        ensures len { self.new.len ≡ self.old.len + 3 }
-    {
-        self.bytes[self.len..self.len + 3].copy_from_slice(&group);
-        self.len += 3;
-    }
 }

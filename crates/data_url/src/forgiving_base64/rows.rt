@@ -1,21 +1,25 @@
 //! Decodes the groups of a text of base64 (RFC 4648, section 4): in rows of sixteen bytes as far as possible, and byte
 //! by byte otherwise.
 
-ghost use Rattle.std.specs.Prelude.{◌≡◌, ◌<◌, ◌≤◌, MatchResult, length, slice_index, take};
+ghost use Rattle.std.specs.Prelude.{◌≡◌, ◌<◌, ◌≤◌, ◌++◌, ◌-◌, ◌*◌, ◌/◌, IsTrue, MatchOption, MatchResult};
+ghost use Rattle.std.specs.Prelude.{drop, length, replicate, slice_index, take};
+ghost use Rattle.std.specs.List.{list_all};
+ghost use Rattle.data_url.specs.Base64.{is_symbol};
 
 use super::InvalidBase64Details;
-use super::alphabet::{decode_row, group_of, is_of_symbols, is_symbol, symbols_ahead};
+use super::alphabet::{decode_row, is_of_symbols, is_symbol, symbols_ahead};
 use super::gaps::{before_partial, decode_unit, pack_rows, row_over_gap, spaces_after_twelve};
 use super::held::{FULL, HeldGroups};
 use super::left_over::LeftOver;
-use crate::classes::lanes::{put, repeated, row, short_row};
+use crate::classes::lanes::{BLOCK, ROW, first_row, put, repeated, rotated, row, spliced};
+use std::simd::prelude::*;
 
 impl HeldGroups {
     ghost use Rattle.data_url.specs.Steps.Groups.{AddsGroups, held_bytes};
 
-    /// Decodes whole groups that a text begins with, and adds their bytes. In a text of sixteen bytes or more, white
-    /// space is skipped, and the last bytes, fewer than sixteen, may be left. Of a shorter text, at most two groups are
-    /// decoded, which come before its first byte that is no symbol. Returns how many bytes of the text were decoded.
+    /// Decodes whole groups that a text of sixteen bytes or more begins with, and adds their bytes. White space is
+    /// skipped, but not among the last bytes, fewer than sixteen. Returns how many bytes of the text were decoded: none
+    /// of a shorter text.
     #[inline(always)]
     pub(crate) fn decode_ahead(&mut self, text: &[u8]) -> usize
         requires room { self.old.len < 192 }
@@ -23,15 +27,8 @@ impl HeldGroups {
         ensures added { AddsGroups (held_bytes self.old) (take result text.now)
             (held_bytes self.new) }
     {
-        if text.len() < 4 {
+        if text.len() < ROW {
             return 0;
-        }
-        if text.len() < 16 {
-            let row = short_row(text);
-            let groups = symbols_ahead(row) / 4;
-            put(&mut self.bytes, self.len, decode_row(row));
-            self.len += 3 * groups;
-            return 4 * groups;
         }
         let taken = self.decode_rows(text);
         if self.len >= FULL || text.len() - taken < 16 {
@@ -103,11 +100,88 @@ impl HeldGroups {
 
 impl LeftOver {
     ghost use Rattle.data_url.specs.Steps.Groups.{held_bytes};
-    ghost use Rattle.data_url.specs.Steps.Holding.{Gains, Refuses, left_state};
+    ghost use Rattle.data_url.specs.Steps.Holding.{Completes, Gains, Refuses, left_state};
 
-    /// Reads whole groups that a text begins with, or one byte if it begins with none or if something is left over of
-    /// the text before. Adds the bytes of the groups that are complete then. Returns how many bytes of the text were
-    /// read, or the kind of the fault if the byte is one.
+    /// Returns a row that has the symbols left over, then the bytes that a text begins with and, if the text is shorter
+    /// than the row, zeros.
+    #[inline(always)]
+    fn row_with(&self, text: &[u8]) -> u8x16
+        ensures { result ≡ take self.now.pending self.now.symbols
+            ++ take (16 - self.now.pending) (text.now ++ replicate 16 0) }
+    {
+        let next = first_row(text);
+        if self.pending == 0 {
+            return next;
+        }
+        let [first, second, third] = self.symbols;
+        let left = u8x16::from_array([first, second, third, 0, 0, 0, 0, 0, 0, 0, 0, 0, 0, 0, 0, 0]);
+        spliced(left, rotated(next, 16 - self.pending), self.pending)
+    }
+
+    /// Keeps the symbols after the last whole group among the first `count` symbols of a row.
+    #[inline(always)]
+    fn keep_after_groups(&mut self, row: u8x16, count: usize)
+        requires few { count ≤ 16 }
+        requires symbols { IsTrue (list_all is_symbol (take count row)) }
+        ensures { left_state self.new ≡ record (left_state self.old)
+            { symbols = drop (count / 4 * 4) (take count row) } }
+    {
+        self.pending = count % 4;
+        if count % 4 > 0 {
+            let mut left = [0; ROW];
+            put(&mut left, 0, rotated(row, count / 4 * 4));
+            self.symbols = [left[0], left[1], left[2]];
+        }
+    }
+
+    /// Reads the symbols that a text begins with, at most 64 together with those left over. Writes the bytes of the
+    /// groups that are complete then to `bytes`, and after them bytes that are of no use. Returns how many symbols of
+    /// the text were read, and how many bytes the groups have.
+    #[inline(always)]
+    pub(super) fn decode_front(&mut self, text: &[u8], bytes: &mut [u8; BLOCK]) -> (usize, usize)
+        requires no_padding { self.old.padding ≡ 0 }
+        ensures sizes { (result.0 ≤ length text.now) × (result.1 ≤ 48) }
+        ensures read { Completes (left_state self.old) (take result.0 text.now)
+            (take result.1 bytes.new) (left_state self.new) }
+    {
+        let mut row = self.row_with(text);
+        let mut count = symbols_ahead(row);
+        put(bytes, 0, decode_row(row));
+        let mut read = count - self.pending;
+        let mut len = 0;
+        while count == ROW && len < 36 && read < text.len() {
+            len += 12;
+            row = first_row(&text[read..]);
+            count = symbols_ahead(row);
+            put(bytes, len, decode_row(row));
+            read += count;
+        }
+        self.keep_after_groups(row, count);
+        (read, len + count / 4 * 3)
+    }
+
+    /// Reads the symbols that a text begins with, as many as have room in a row after those left over. Adds the bytes
+    /// of the groups that are complete then. Returns how many symbols were read.
+    #[inline(always)]
+    fn read_symbols(&mut self, text: &[u8], groups: &mut HeldGroups) -> usize
+        requires some { (1 ≤ length text.now) × IsTrue (is_symbol (slice_index text.now 0)) }
+        requires no_padding { self.old.padding ≡ 0 }
+        requires room { groups.old.len < 192 }
+        ensures { Gains (left_state self.old) (held_bytes groups.old) text.now result
+            (left_state self.new) (held_bytes groups.new) }
+    {
+        let row = self.row_with(text);
+        let count = symbols_ahead(row);
+        put(&mut groups.bytes, groups.len, decode_row(row));
+        groups.len += count / 4 * 3;
+        let read = count - self.pending;
+        self.keep_after_groups(row, count);
+        read
+    }
+
+    /// Reads whole groups, or symbols, or one other byte that a text begins with, after what is left over of the text
+    /// before. Adds the bytes of the groups that are complete then. Returns how many bytes of the text were read, or
+    /// the kind of the fault if the first byte is one.
     #[inline(always)]
     pub(super) fn read_groups_or_byte(
         &mut self,
@@ -137,13 +211,8 @@ impl LeftOver {
             }
         } else if self.padding > 0 {
             return Err(InvalidBase64Details::AlphabetSymbolAfterPadding);
-        } else if self.pending < 3 {
-            self.symbols[self.pending] = byte;
-            self.pending += 1;
         } else {
-            self.pending = 0;
-            let [first, second, third] = self.symbols;
-            groups.push(group_of(first, second, third, byte));
+            return Ok(self.read_symbols(text, groups));
         }
         Ok(1)
     }

@@ -36,7 +36,7 @@ returns-then-kept-part-clause-text c =
     encoded_text c.args.set kept kept small as_is
 
 pub loop-byte-preserved : goal.loop-byte-preserved
-loop-byte-preserved c = rw c.from-at.ensures (put_more _ _ _ _ _ _ _ c.loop-byte.invariant c.loop-byte-test.true
+loop-byte-preserved c = rw c.from-len.ensures (put_more _ _ _ _ _ _ _ c.loop-byte.invariant c.loop-byte-test.true
     (omega arith) c.entry-entry.ensures c.copy_from_slice.ensures.len c.copy_from_slice.ensures.after)
 
 pub returns-clause-text : goal.returns-clause-text

@@ -1,94 +1,15 @@
-use Rattle.std.proofs.Common.{[], ◌+◌, ◌∙◌, append-nil, ap, arith, drop, length, length-drop, length-take-le, sym, take}
-use Rattle.std.{proofs.Common.{take-append-drop}, proofs.lemmas.Result.{err_from_is_err_and}, specs.Fn.{CalledAt}}
-use Rattle.data_url.specs.{Decoder.{state_of}, Steps.Groups.{held_bytes}}
-use Rattle.data_url.proofs.forgiving_base64.Holding.{ends_within, held_len, reads_gained, reads_to}
+use Rattle.std.{proofs.lemmas.Result.{err_from_is_err_and}, specs.Fn.{CalledAt}}
+use Rattle.data_url.proofs.forgiving_base64.Holding.{ends_on, reads_to_on}
 use Rattle.data_url.proofs.forgiving_base64.decode.Decoder.feed_until_fault.Goals as goal
 
-pub returns-in_err-flush-in-Err-clause-read : goal.returns-in_err-flush-in-Err-clause-read
-returns-in_err-flush-in-Err-clause-read g c =
-    let p = err_from_is_err_and c.from_residual-in_err-flush-in-Err.result
-    c.from_residual-in_err-flush-in-Err.ensures.1 in
-    let stays = c.in-Err.ensures.0.stays in
-    let i = c.loop-at.invariant in
-    let flushed = rw (c.as_slice.ensures, ap (λ s. s.symbols) stays, ap (λ s. s.padding) stays, c.in-Err.ensures.1) at
-    c.in_err-flush-in-Err.ensures.flushed in
-    rw (p.1, p.2) (ends_within (CalledAt g.F.FnMut) c.loop-at.at i.within i.reads
-    (flushed (state_of c.args.self.now) (take c.loop-at.at c.args.text.now) []
-    (rw (append-nil (held_bytes c.loop-at.groups)) i.reads)))
-
-pub returns-in-Err-clause-read : goal.returns-in-Err-clause-read
-returns-in-Err-clause-read g c =
-    let stays = c.in-Err.ensures.0.stays in
-    let i = c.loop-at.invariant in
-    let flushed = rw (c.as_slice.ensures, ap (λ s. s.symbols) stays, ap (λ s. s.padding) stays, c.in-Err.ensures.1) at
-    c.in_ok-flush-in-Err.ensures.flushed in
-    reads_to (CalledAt g.F.FnMut) c.args.text.now c.loop-at.at c.loop-at-test.true i.reads
-    (flushed (state_of c.args.self.now) (take c.loop-at.at c.args.text.now) []
-    (rw (append-nil (held_bytes c.loop-at.groups)) i.reads)) c.in-Err.ensures.0
-
-pub slice_bounds-flush-end : goal.slice_bounds-flush-end
-slice_bounds-flush-end g c =
-    let size = ap length c.as_slice-then-groups-ge-FULL.ensures ∙ held_len c.read_groups_or_byte.new.groups in
-    sym (length-take-le 192 _ (omega (arith, size)))
-
-pub flush-requires-then-groups-ge-FULL-clause-whole : goal.flush-requires-then-groups-ge-FULL-clause-whole
-flush-requires-then-groups-ge-FULL-clause-whole g c = omega (arith, slice_bounds-flush-end g c)
-
-pub returns-in_err-flush-clause-read : goal.returns-in_err-flush-clause-read
-returns-in_err-flush-clause-read g c =
-    let step = CalledAt g.F.FnMut in
-    let bytes = held_bytes c.read_groups_or_byte.new.groups in
-    let reads = reads_gained step c.args.text.now c.loop-at.at c.in-Ok.taken c.loop-at.invariant.reads
-    c.in-Ok.ensures in
-    let flushed = rw c.as_slice-then-groups-ge-FULL.ensures at c.in_err-flush.ensures.flushed in
-    let p = err_from_is_err_and c.from_residual-in_err-flush.result c.from_residual-in_err-flush.ensures.1 in
-    rw (p.1, p.2) (ends_within (CalledAt g.F.FnMut) (c.loop-at.at + c.in-Ok.taken)
-    (omega (arith, c.in-Ok.ensures.within, length-drop c.loop-at.at c.args.text.now)) reads
-    (flushed (state_of c.args.self.now) (take (c.loop-at.at + c.in-Ok.taken) c.args.text.now) (drop 192 bytes)
-    (rw (take-append-drop 192 bytes) reads)))
-
-pub loop-at-preserved-then-groups-ge-FULL : goal.loop-at-preserved-then-groups-ge-FULL
-loop-at-preserved-then-groups-ge-FULL g c =
-    let step = CalledAt g.F.FnMut in
-    let held = c.read_groups_or_byte.new.groups in
-    let bytes = held_bytes held in
-    let reads = reads_gained step c.args.text.now c.loop-at.at c.in-Ok.taken c.loop-at.invariant.reads
-    c.in-Ok.ensures in
-    let flushed = rw c.as_slice-then-groups-ge-FULL.ensures at c.in_ok-flush.ensures.flushed in
-    record {
-      callable = c.in_ok-flush.ensures.callable;
-      within = omega (arith, c.in-Ok.ensures.within, length-drop c.loop-at.at c.args.text.now);
-      few = omega (arith, c.drop_first.ensures.len, held.within);
-      reads = rw c.drop_first.ensures.bytes (flushed (state_of c.args.self.now)
-          (take (c.loop-at.at + c.in-Ok.taken) c.args.text.now) (drop 192 bytes)
-          (rw (take-append-drop 192 bytes) reads));
-    }
-
-pub loop-at-preserved : goal.loop-at-preserved
-loop-at-preserved g c = record {
-  callable = c.loop-at.invariant.callable;
-  within = omega (arith, c.in-Ok.ensures.within, length-drop c.loop-at.at c.args.text.now);
-  few = omega arith;
-  reads = reads_gained (CalledAt g.F.FnMut) c.args.text.now c.loop-at.at c.in-Ok.taken c.loop-at.invariant.reads
-      c.in-Ok.ensures;
-}
-
-pub returns-in_err-flush-2-clause-read : goal.returns-in_err-flush-2-clause-read
-returns-in_err-flush-2-clause-read g c =
-    let p = err_from_is_err_and c.from_residual-in_err-flush-2.result c.from_residual-in_err-flush-2.ensures.1 in
-    let i = c.loop-at.invariant in
-    let flushed = rw c.as_slice-2.ensures at c.in_err-flush-2.ensures.flushed in
-    rw (p.1, p.2) (ends_within (CalledAt g.F.FnMut) c.loop-at.at i.within i.reads
-    (flushed (state_of c.args.self.now) (take c.loop-at.at c.args.text.now) []
-    (rw (append-nil (held_bytes c.loop-at.groups)) i.reads)))
+pub returns-in_err-place-clause-read : goal.returns-in_err-place-clause-read
+returns-in_err-place-clause-read g c =
+    let start = c.in_ok-at.ensures.read in
+    let p = err_from_is_err_and c.from_residual-in_err-place.result c.from_residual-in_err-place.ensures.1 in
+    rw (p.1, p.2) (ends_on (CalledAt g.F.FnMut) c.args.text.now c.in_ok-at.at start.0 start.1
+    c.in_err-place.ensures.read)
 
 pub returns-clause-read : goal.returns-clause-read
 returns-clause-read g c =
-    let i = c.loop-at.invariant in
-    let flushed = rw c.as_slice-2.ensures at c.in_ok-flush-2.ensures.flushed in
-    record {
-      within = i.within;
-      reads = flushed (state_of c.args.self.now) (take c.loop-at.at c.args.text.now) []
-          (rw (append-nil (held_bytes c.loop-at.groups)) i.reads);
-      ends = omega (arith, i.within);
-    }
+    let start = c.in_ok-at.ensures.read in
+    reads_to_on (CalledAt g.F.FnMut) c.args.text.now c.in_ok-at.at start.0 start.1 c.in_ok-place.ensures.read

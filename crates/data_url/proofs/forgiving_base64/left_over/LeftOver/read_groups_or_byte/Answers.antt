@@ -1,10 +1,9 @@
-use Rattle.std.proofs.Common.{◌<◌, ℕ, append-nil, get_or, refl, ap, sym, ◌∙◌, arith, length-take}
-use Rattle.std.{proofs.lemmas.Bool.{ne_eqb}, proofs.lemmas.List.{length-map, take_more_set}}
-use Rattle.data_url.specs.Steps.Holding.{left_state}
-use Rattle.data_url.proofs.forgiving_base64.Holding.{gains_groups, gains_none, gains_one}
-use Rattle.data_url.proofs.forgiving_base64.Steps.{completes_group, completes_kept, completes_pad, completes_space}
-use Rattle.data_url.proofs.forgiving_base64.Steps.{groups_few, kept_symbol}
-use Rattle.data_url.proofs.forgiving_base64.Steps.{more_symbols, refuses_after, refuses_other, sound, three_items}
+use Rattle.std.proofs.Common.{◌≡◌, append-nil, get_or, length, refl, ap, sym, ◌∙◌, arith}
+use Rattle.std.{proofs.lemmas.Bool.{ne_eqb}, proofs.lemmas.List.{length-map}}
+use Rattle.data_url.specs.Steps.{Groups.{held_bytes}, Holding.{left_state}}
+use Rattle.data_url.proofs.forgiving_base64.Holding.{gains_groups, gains_none, held_len}
+use Rattle.data_url.proofs.forgiving_base64.Steps.{completes_pad, completes_space, groups_few, refuses_after}
+use Rattle.data_url.proofs.forgiving_base64.Steps.{refuses_other, sound}
 use Rattle.data_url.proofs.forgiving_base64.Vectors.{space_is}
 use Rattle.data_url.proofs.forgiving_base64.left_over.LeftOver.read_groups_or_byte.Goals as goal
 
@@ -46,34 +45,13 @@ returns-then-self-gt0 c = (
   grind unfilled,
 )
 
-pub returns-then-self-lt3 : goal.returns-then-self-lt3
-returns-then-self-lt3 c =
-    let d = c.args.self.now in
-    gains_none c.args.text.now c.requires.some (completes_kept (get_or c.args.text.now 0 0) (sound d)
-    (omega (arith, length-take d.pending d.symbols)) (omega arith) (sym c.is_symbol.ensures ∙ c.if-not-is_symbol.false)
-    refl (take_more_set d.symbols d.pending (get_or c.args.text.now 0 0) (omega arith)) refl refl) (grind unfilled)
+pub read_symbols-requires-clause-room : goal.read_symbols-requires-clause-room
+read_symbols-requires-clause-room c =
+    let groups = c.if-is_between_groups.groups in
+    let same : held_bytes groups ≡ held_bytes c.args.groups.now = grind unfilled in
+    omega (arith, ap length same, held_len groups, held_len c.args.groups.now, c.requires.room)
 
-pub returns-else-self-lt3 : goal.returns-else-self-lt3
-returns-else-self-lt3 c =
-    let d = c.args.self.now in
-    gains_one c.args.text.now c.group_of.result c.requires.some (completes_group _ _ _ (get_or c.args.text.now 0 0) _
-    (sound d)
-    (three_items d.symbols d.pending (omega arith) (omega (arith, d.few_pending)))
-    (omega arith) (sym c.is_symbol.ensures ∙ c.if-not-is_symbol.false) c.group_of.ensures refl refl (omega arith)
-    refl) (grind unfilled)
-
-pub invariant_of-self-then-self-lt3 : goal.invariant_of-self-then-self-lt3
-invariant_of-self-then-self-lt3 c =
-    let d = c.args.self.now in record {
-      few_pending = omega arith;
-      pending_symbols = more_symbols d.symbols d.pending _ (omega arith) d.pending_symbols
-          (sym c.is_symbol.ensures ∙ c.if-not-is_symbol.false);
-      few_padding = d.few_padding;
-    }
-
-pub group_of-requires : goal.group_of-requires
-group_of-requires c =
-    let d = c.args.self.now in
-    let is = λ (i : ℕ) (l : i < 3).
-    kept_symbol d.symbols d.pending i (omega arith) (omega (arith, d.few_pending)) d.pending_symbols in
-    (is 0 (omega arith), is 1 (omega arith), is 2 (omega arith), sym c.is_symbol.ensures ∙ c.if-not-is_symbol.false)
+pub returns-else-self-gt0 : goal.returns-else-self-gt0
+returns-else-self-gt0 c =
+    let same : held_bytes c.if-is_between_groups.groups ≡ held_bytes c.args.groups.now = grind unfilled in
+    rw same at c.read_symbols.ensures

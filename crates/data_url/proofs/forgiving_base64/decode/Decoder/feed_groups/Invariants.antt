@@ -1,6 +1,6 @@
 use Rattle.std.{proofs.Common.{◌-◌, ◌<◌, ◌≤◌, length, take}, specs.Fn.{CalledAt, always_mut}}
 use Rattle.data_url.specs.{Decoder.{state_of}, Steps.Groups.{held_bytes}, Steps.Holding.{ReadsHolding}}
-use Rattle.data_url.proofs.forgiving_base64.decode.Decoder.feed_until_fault.Given as goal
+use Rattle.data_url.proofs.forgiving_base64.decode.Decoder.feed_groups.Given as goal
 
 -- the text read so far was decoded; the bytes that the closure was not called with are held
 abbrev pub invariant-loop-at : goal.invariant-loop-at

@@ -1,0 +1,286 @@
+-- The symbols that are left over, and then those that a text begins with, in one row. For `read_symbols`.
+use Rattle.std.proofs.Common.{append_assoc, List, [], ◌∷◌, ap, append-nil, arith, drop, false, get_or, length}
+use Rattle.std.proofs.Common.{length-drop, length-take, length-take-le, map, refl, replicate, suc, sym, take, take-add}
+use Rattle.std.proofs.Common.{take-take, take_all, true, zero, ℕ, ⊎_elim, ◌%◌, ◌*◌, ◌++◌, ◌+◌, ◌-◌, ◌/◌}
+use Rattle.std.proofs.Common.{◌∙◌, ◌≡◌, ◌≤◌}
+use Rattle.std.proofs.Math.Seq.{drop-append-add, take-append-add}
+use Rattle.std.proofs.lemmas.Bool.{and_parts, cases_lt}
+use Rattle.std.proofs.lemmas.List.{drop-take, length-map, map-append, nil_from_length, take-append-le}
+use Rattle.std.proofs.lemmas.List.{take-replicate}
+use Rattle.std.proofs.lemmas.List.Folds.{list_all-append}
+use Rattle.std.proofs.lemmas.List.Sums.{prefix_len-le-length}
+use Rattle.std.specs.List.{list_all, prefix_len}
+use Rattle.data_url.specs.Base64.{after_groups, groups, is_symbol, symbol_value}
+use Rattle.data_url.specs.declared.forgiving_base64.left_over.LeftOver as left
+use Rattle.data_url.specs.{Decoder.{State}, Steps.Holding.{Completes, Gains}, Steps.Lanes.{DecodesFront}}
+use Rattle.data_url.proofs.forgiving_base64.Groups.{prefix_passes, symbols_alone, symbols_end}
+use Rattle.data_url.proofs.forgiving_base64.Holding.{completes_spaced}
+use Rattle.data_url.proofs.forgiving_base64.Padding.{after_groups-append, after_is, every_list_all, filter_all}
+use Rattle.data_url.proofs.forgiving_base64.Padding.{length-after_groups}
+use Rattle.data_url.proofs.forgiving_base64.{Steps.{IsSound, groups_few}, Vectors.{groups_whole}}
+
+-- the first items of a list, up to three, are the same where only its first three items are kept
+pub first_items : (s r : List ℕ) (k : ℕ) → k ≤ 3 → 3 ≤ length s
+    → take k (get_or s 0 0 ∷ get_or s 1 0 ∷ get_or s 2 0 ∷ r) ≡ take k s
+first_items (a ∷ b ∷ c ∷ s) r zero few long = refl
+first_items (a ∷ b ∷ c ∷ s) r (suc zero) few long = refl
+first_items (a ∷ b ∷ c ∷ s) r (suc (suc zero)) few long = refl
+first_items (a ∷ b ∷ c ∷ s) r (suc (suc (suc zero))) few long = refl
+first_items (a ∷ b ∷ c ∷ s) r (suc (suc (suc (suc k)))) few long = absurd (omega arith)
+first_items [] r k few long = absurd (omega arith)
+first_items (a ∷ []) r k few long = absurd (omega arith)
+first_items (a ∷ b ∷ []) r k few long = absurd (omega arith)
+
+-- a row that is made of p symbols and the row of a text, which is turned to its place after them
+pub joined_is : (q left first next row text : List ℕ) (p : ℕ) → p ≤ 3 → take p left ≡ q
+    → first ≡ take 16 (text ++ replicate 16 0) → length first ≡ 16 → next ≡ drop (16 - p) first ++ take (16 - p) first
+    → row ≡ take p left ++ drop p next → row ≡ q ++ take (16 - p) (text ++ replicate 16 0)
+joined_is q left first next row text p few front first_is long next_is is =
+    let back = drop (16 - p) first in
+    let size : p ≡ length back + 0 = omega (arith, length-drop (16 - p) first, long) in
+    let rest : drop p (back ++ take (16 - p) first) ≡ take (16 - p) first =
+    ap (λ n. drop n (back ++ take (16 - p) first)) size ∙ drop-append-add back (take (16 - p) first) 0 in
+    cc (is, front, next_is, rest, first_is, take-take (16 - p) 16 (text ++ replicate 16 0) (omega arith))
+
+-- if no symbols are left over, it is the row of the text
+pub joined_none : (symbols text : List ℕ) {p : ℕ} → p ≡ 0
+    → take 16 (text ++ replicate 16 0) ≡ take p symbols ++ take (16 - p) (text ++ replicate 16 0)
+joined_none symbols text e = rw e refl
+
+-- the row begins with the symbols left over and then with `read` symbols of the text, and no more
+pub record Joins (q text row : List ℕ) (read : ℕ) : Type 0 where
+  pub within : read ≤ length text
+  pub count : prefix_len is_symbol row ≡ length q + read
+  pub same : take (length q + read) row ≡ q ++ take read text
+  pub all : list_all is_symbol (q ++ take read text) ≡ true
+
+-- if all items of a list pass, so do those that another one begins with after it
+prefix_after : (q s : List ℕ) → list_all is_symbol q ≡ true
+    → prefix_len is_symbol (q ++ s) ≡ length q + prefix_len is_symbol s
+prefix_after [] s h = omega arith
+prefix_after (x ∷ q) s h =
+    let p = and_parts (is_symbol x) (list_all is_symbol q) h in grind (arith, prefix_after q s p.1)
+
+-- the first n bytes of a text with zeros after it
+padded_front : (text : List ℕ) (n : ℕ) → n ≤ 16
+    → take n (text ++ replicate 16 0) ≡ take n text ++ replicate (n - length text) 0
+padded_front text n h = ⊎_elim
+    (λ l. let none : n - length text ≡ 0 = omega arith in
+    take-append-le n text (replicate 16 0) (omega arith)
+    ∙ sym (ap (λ k. take n text ++ replicate {A = ℕ} k 0) none ∙ append-nil (take n text)))
+    (λ m. let size : n ≡ length text + (n - length text) = omega arith in
+    ap (λ k. take k (text ++ replicate 16 0)) size ∙ take-append-add text (replicate 16 0) (n - length text)
+    ∙ ap (λ t. text ++ t) (take-replicate (n - length text) 16 0 (omega arith))
+    ∙ ap (λ t. t ++ replicate {A = ℕ} (n - length text) 0) (sym (take_all n text m)))
+    (cases_lt n (length text))
+
+-- such a row begins with the symbols left over and then with those of the text
+joins : (q text row : List ℕ) (p : ℕ) → length q ≡ p → p ≤ 3 → list_all is_symbol q ≡ true
+    → row ≡ q ++ take (16 - p) (text ++ replicate 16 0) → Joins q text row (prefix_len is_symbol row - p)
+joins q text row p long few symbols is =
+    let s = take (16 - p) (text ++ replicate 16 0) in
+    let read = prefix_len is_symbol s in
+    let count : prefix_len is_symbol row ≡ length q + read = ap (prefix_len is_symbol) is ∙ prefix_after q s symbols in
+    let read_is : prefix_len is_symbol row - p ≡ read = omega (arith, count, long) in
+    let front = take (16 - p) text in
+    let zeros : List ℕ = replicate (16 - p - length text) 0 in
+    let s_is : s ≡ front ++ zeros = padded_front text (16 - p) (omega arith) in
+    let few_read : read ≤ length front = rw (sym s_is) at (symbols_end front (16 - p - length text)) in
+    let size = length-take (16 - p) text in
+    let same : take (length q + read) row ≡ q ++ take read text =
+    ap (take (length q + read)) is ∙ take-append-add q s read
+    ∙ ap (λ t. q ++ t) (ap (take read) s_is ∙ take-append-le read front zeros few_read
+    ∙ take-take read (16 - p) text (omega (arith, few_read, size))) in
+    rw read_is (record {
+      within = omega (arith, few_read, size);
+      count = count;
+      same = same;
+      all = ap (list_all is_symbol) (sym same ∙ ap (λ n. take n row) (sym count)) ∙ prefix_passes is_symbol row;
+    })
+
+-- so it is with what is left over of a text
+pub joins_left : (s : left.LeftOver) (text row : List ℕ) {count : ℕ} → length s.symbols ≡ 3
+    → row ≡ take s.pending s.symbols ++ take (16 - s.pending) (text ++ replicate 16 0)
+    → count ≡ prefix_len is_symbol row → Joins (take s.pending s.symbols) text row (count - s.pending)
+joins_left s text row three is count = rw count (joins (take s.pending s.symbols) text row s.pending
+    (length-take-le s.pending s.symbols (omega (arith, three, s.few_pending))) s.few_pending s.pending_symbols is)
+
+-- if the text begins with a symbol, it is read
+begins : (text : List ℕ) (n : ℕ) → 1 ≤ length text → is_symbol (get_or text 0 0) ≡ true
+    → 1 ≤ prefix_len is_symbol (take (suc n) (text ++ replicate 16 0))
+begins [] n some h = absurd (omega arith)
+begins (c ∷ t) n some h = grind (arith, h)
+
+pub some_read : (s : left.LeftOver) (text row : List ℕ) {count : ℕ} → length s.symbols ≡ 3
+    → row ≡ take s.pending s.symbols ++ take (16 - s.pending) (text ++ replicate 16 0)
+    → count ≡ prefix_len is_symbol row → 1 ≤ length text → is_symbol (get_or text 0 0) ≡ true
+    → 1 ≤ count - s.pending
+some_read s text row three is count some first =
+    let q = take s.pending s.symbols in
+    let rest = take (16 - s.pending) (text ++ replicate 16 0) in
+    let one : 16 - s.pending ≡ suc (15 - s.pending) = omega (arith, s.few_pending) in
+    let more : 1 ≤ prefix_len is_symbol rest = rw (sym one) at (begins text (15 - s.pending) some first) in
+    let all = ap (prefix_len is_symbol) is ∙ prefix_after q rest s.pending_symbols in
+    omega (arith, count, all, more, length-take-le s.pending s.symbols (omega (arith, three, s.few_pending)))
+
+-- the first n items of a list are those of the largest multiple of four and the others
+cut : (s : List ℕ) (n : ℕ) → take n s ≡ take (n / 4 * 4) s ++ take (n % 4) (drop (n / 4 * 4) s)
+cut s n = let size : n ≡ n / 4 * 4 + n % 4 = omega arith in ap (λ k. take k s) size ∙ take-add (n / 4 * 4) (n % 4) s
+
+-- the others, written in another way
+others : (s : List ℕ) (n : ℕ) → take (n % 4) (drop (n / 4 * 4) s) ≡ drop (n / 4 * 4) (take n s)
+others s n =
+    let size : n / 4 * 4 + n % 4 ≡ n = omega arith in
+    sym (drop-take (n / 4 * 4) (n % 4) s) ∙ ap (λ k. drop (n / 4 * 4) (take k s)) size
+
+-- the symbols after the groups of a row, from what is read of the row that is turned to begin with them
+pub left_items : (row turned s : List ℕ) (n : ℕ) → length row ≡ 16 → length s ≡ 16 → n ≤ 16 → take 16 s ≡ turned
+    → turned ≡ drop (n / 4 * 4) row ++ take (n / 4 * 4) row
+    → take (n % 4) (get_or s 0 0 ∷ get_or s 1 0 ∷ get_or s 2 0 ∷ []) ≡ drop (n / 4 * 4) (take n row)
+left_items row turned s n long sized within is turned_is = cc (
+  first_items s [] (n % 4) (omega arith) (omega arith),
+  take-take (n % 4) 16 s (omega arith),
+  is,
+  turned_is,
+  take-append-le (n % 4) (drop (n / 4 * 4) row) (take (n / 4 * 4) row)
+      (omega (arith, long, length-drop (n / 4 * 4) row)),
+  others row n,
+)
+
+-- if there are none
+pub none_left : (row s : List ℕ) (n : ℕ) → length row ≡ 16 → n ≤ 16 → n % 4 ≡ 0
+    → take (n % 4) s ≡ drop (n / 4 * 4) (take n row)
+none_left row s n long within none =
+    let left = drop (n / 4 * 4) (take n row) in
+    let size = length-take-le n row (omega (arith, long)) in
+    let empty : length left ≡ 0 = omega (arith, length-drop (n / 4 * 4) (take n row), size) in
+    ap (λ k. take k s) none ∙ sym (nil_from_length left empty)
+
+-- the symbols that a row begins with are whole groups and others
+cut_symbols : (row : List ℕ) (n : ℕ) → list_all is_symbol (take n row) ≡ true
+    → (list_all is_symbol (take (n / 4 * 4) row) ≡ true) × (list_all is_symbol (drop (n / 4 * 4) (take n row)) ≡ true)
+cut_symbols row n all =
+    let parts = and_parts _ _
+    (sym (list_all-append is_symbol (take (n / 4 * 4) row) (take (n % 4) (drop (n / 4 * 4) row)))
+    ∙ ap (list_all is_symbol) (sym (cut row n)) ∙ all) in
+    (parts.0, sym (ap (list_all is_symbol) (others row n)) ∙ parts.1)
+
+-- the others are symbols
+pub left_symbols : (row : List ℕ) (n : ℕ) → list_all is_symbol (take n row) ≡ true
+    → list_all is_symbol (drop (n / 4 * 4) (take n row)) ≡ true
+left_symbols row n all = (cut_symbols row n all).1
+
+-- the bytes of the groups that a row begins with
+decoded_groups : (row bytes : List ℕ) (n : ℕ) → length row ≡ 16 → n ≤ 16 → list_all is_symbol (take n row) ≡ true
+    → DecodesFront row bytes → take (n / 4 * 3) bytes ≡ groups (map symbol_value (take n row))
+decoded_groups row bytes n long within all decodes =
+    let w = n / 4 * 4 in
+    let x = take w row in
+    let y = take (n % 4) (drop w row) in
+    let four : 4 * (n / 4) ≡ w = omega arith in
+    let three : 3 * (n / 4) ≡ n / 4 * 3 = omega arith in
+    let front : take (n / 4 * 3) bytes ≡ groups (map symbol_value x) =
+    rw (four, three) at (decodes (n / 4) (omega arith)) (cut_symbols row n all).0 in
+    let size : length x ≡ w = length-take-le w row (omega (arith, long)) in
+    let short : length y ≤ 3 = omega (arith, length-take (n % 4) (drop w row)) in
+    cc (
+      front,
+      cut row n,
+      map-append symbol_value x y,
+      groups_whole (map symbol_value x) (map symbol_value y) (omega (arith, length-map x symbol_value, size)),
+      groups_few (map symbol_value y) (omega (arith, length-map y symbol_value, short)),
+      append-nil (groups (map symbol_value x)),
+    )
+
+-- the symbols q and the first `read` bytes of a text are symbols, of which a row has the last `count`; these bytes are
+-- those of their groups, and the row has what is left over
+pub record Fronts (q text row bytes : List ℕ) (read count : ℕ) : Type 0 where
+  pub within : read ≤ length text
+  pub in_row : list_all is_symbol (take count row) ≡ true
+  pub all : list_all is_symbol (q ++ take read text) ≡ true
+  pub bytes_are : bytes ≡ groups (map symbol_value (q ++ take read text))
+  pub left : drop (count / 4 * 4) (take count row) ≡ after_groups (q ++ take read text)
+
+-- so it is after the first row
+pub fronts_first : {q text row bytes : List ℕ} (read count : ℕ) (decoded : List ℕ) → Joins q text row read
+    → count ≡ prefix_len is_symbol row → length row ≡ 16 → DecodesFront row decoded
+    → bytes ≡ take (count / 4 * 3) decoded → Fronts q text row bytes read count
+fronts_first {q} {text} {row} read count decoded j ahead long decodes is =
+    let symbols : take count row ≡ q ++ take read text = ap (λ k. take k row) (ahead ∙ j.count) ∙ j.same in
+    let few : count ≤ 16 = omega (arith, ahead, prefix_len-le-length is_symbol row, long) in
+    let all : list_all is_symbol (take count row) ≡ true = ap (list_all is_symbol) symbols ∙ j.all in
+    record {
+      within = j.within;
+      in_row = all;
+      all = j.all;
+      bytes_are = cc (is, decoded_groups row decoded count long few all decodes, symbols);
+      left = cc (after_is (take count row), length-take-le count row (omega (arith, few, long)), symbols);
+    }
+
+-- so it is after one row more
+pub fronts_more : {q text row bytes more row' : List ℕ} (read m : ℕ) (decoded : List ℕ)
+    → Fronts q text row bytes read 16 → length row ≡ 16 → row' ≡ take 16 (drop read text ++ replicate 16 0)
+    → m ≡ prefix_len is_symbol row' → length row' ≡ 16 → DecodesFront row' decoded
+    → more ≡ bytes ++ take (m / 4 * 3) decoded → Fronts q text row' more (read + m) m
+fronts_more {q} {text} {row} {bytes} {more} {row'} read m decoded f sized row_is ahead long decodes is =
+    let a = q ++ take read text in
+    let rest = drop read text in
+    let b = take m rest in
+    let all : prefix_len is_symbol row' - 0 ≡ m = omega (arith, ahead) in
+    let j : Joins [] rest row' m = rw all at (joins [] rest row' 0 refl (omega arith) refl row_is) in
+    let g : Fronts [] rest row' (take (m / 4 * 3) decoded) m m = fronts_first m m decoded j ahead long decodes refl in
+    let none : after_groups a ≡ [] =
+    sym f.left ∙ nil_from_length (drop 16 (take 16 row)) (omega (
+      arith,
+      length-drop 16 (take 16 row),
+      length-take-le 16 row (omega (arith, sized)),
+    )) in
+    let whole : length (map symbol_value a) % 4 ≡ 0 =
+    omega (arith, length-map a symbol_value, length-after_groups a, ap length none) in
+    let joined : a ++ b ≡ q ++ take (read + m) text = cc (append_assoc q (take read text) b, take-add read m text) in
+    record {
+      within = omega (arith, f.within, g.within, length-drop read text);
+      in_row = g.in_row;
+      all = cc (sym joined, list_all-append is_symbol a b, f.all, g.all);
+      bytes_are = cc (
+        is,
+        f.bytes_are,
+        g.bytes_are,
+        joined,
+        map-append symbol_value a b,
+        groups_whole (map symbol_value a) (map symbol_value b) whole,
+      );
+      left = cc (g.left, joined, after_groups-append a b, none);
+    }
+
+module _ {F : Type 0} (d d' : State F) (text row bytes : List ℕ) (read count : ℕ)
+    (f : Fronts d.symbols text row bytes read count) (s : IsSound d.symbols d.padding) (none : d.padding ≡ 0)
+    (closure : d'.closure ≡ d.closure) (left : d'.symbols ≡ drop (count / 4 * 4) (take count row))
+    (padding : d'.padding ≡ 0) (going : d'.failed ≡ false) where
+  -- the symbols are read
+  pub completes_front : Completes d (take read text) bytes d'
+  completes_front =
+      let q = d.symbols in
+      let t = take read text in
+      let alone = (and_parts (list_all is_symbol q) (list_all is_symbol t)
+      (sym (list_all-append is_symbol q t) ∙ f.all)).1 in
+      completes_spaced t t s none (symbols_alone t alone) (sym (filter_all is_symbol t (every_list_all t alone)))
+      f.bytes_are closure (left ∙ f.left) padding going
+
+  -- their bytes are held after others
+  pub gains_front : {held more : List ℕ} → 1 ≤ read → more ≡ held ++ bytes → Gains d held text read d' more
+  gains_front some is = record {
+    some = some;
+    within = f.within;
+    more = bytes;
+    completes = completes_front;
+    held_are = is;
+  }
+
+-- what was put after the first n bytes, as far as it is kept
+pub put_front : (old new row : List ℕ) (n k : ℕ) → n ≤ length old → k ≤ 16 → take (n + 16) new ≡ take n old ++ row
+    → take (n + k) new ≡ take n old ++ take k row
+put_front old new row n k within few put =
+    let size : n + k ≡ length (take n old) + k = omega (arith, length-take-le n old within) in
+    sym (take-take (n + k) (n + 16) new (omega (arith, few))) ∙ ap (take (n + k)) put
+    ∙ ap (λ m. take m (take n old ++ row)) size ∙ take-append-add (take n old) row k
