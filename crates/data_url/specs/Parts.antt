@@ -1,10 +1,10 @@
 -- MIME types, bodies, base64 and fragments in parts: what a call writes to its output, and what it leaves for the next.
-use Rattle.std.specs.Int.{to_le_bytes, w64}
+use Rattle.std.specs.Int.{is_in_range, to_le_bytes, w64}
 use Rattle.std.specs.List.{flat_map, list_all}
 use Rattle.std.specs.Prelude.{◌%◌, ◌<◌, ◌⊎◌, ◌==◌, ◌^◌, ◌||◌, encode_utf8_all}
 use Rattle.std.specs.Prelude.{◌&&◌, ◌*◌, ◌+◌, ◌++◌, ◌-◌, ◌/◌, ◌≡◌, ◌≤◌, Bool, Err, List, MatchBool, MatchOption, Ok}
 use Rattle.std.specs.Prelude.{Result}
-use Rattle.std.specs.Prelude.{drop, length, nat_le, take, true, ℕ}
+use Rattle.std.specs.Prelude.{drop, false, length, nat_le, not, take, true, ℕ}
 use Rattle.data_url.specs.Base64.{Kind, complete_bytes, decoded, first_fault, is_symbol, is_valid, kind_of}
 use Rattle.data_url.specs.Base64.{left_padding}
 use Rattle.data_url.specs.Base64.{left_symbols, left_text}
@@ -13,7 +13,7 @@ use Rattle.data_url.specs.declared.forgiving_base64.left_over.LeftOver.{LeftOver
 use Rattle.data_url.specs.DataUrl.{IsAcceptable, IsUrlWithParts}
 use Rattle.data_url.specs.Fetch.{NoComma, NoScheme, staged}
 use Rattle.data_url.specs.Mime.{HasNoRecord, IsWellformed, Pair, Parses, Record}
-use Rattle.data_url.specs.Url.{after, encoded_fragment, number_sign}
+use Rattle.data_url.specs.Url.{after, before, comma, encoded_fragment, number_sign, trimmed_text}
 use Rattle.data_url.specs.declared.DataUrlError.TheVariants as url
 use Rattle.data_url.specs.declared.DataUrlError.{DataUrlError}
 use Rattle.data_url.specs.declared.mime.MimeFromStrError.TheVariants as from_str
@@ -194,9 +194,22 @@ pub record WritesHeader (t before after : List ℕ) (h : Header) : Type 0 where
   pub url_is : IsUrlWithParts t mime h.base64 h.tail.now
   pub written : WritesIfFits (parts_of mime) before after h.len
 
+-- printable ASCII or a space, and no '?': a header of such bytes is serialised as it is
+abbrev pub is_serialised_as_is : ℕ → Bool
+is_serialised_as_is b = is_in_range 32 126 b && not (b == 63)
+
+-- the text before the first comma has another byte, so that memory may be needed for its header
+abbrev pub HasEncodedHeader : List ℕ → Type 0
+HasEncodedHeader t = list_all is_serialised_as_is (before comma (trimmed_text t)) ≡ false
+
+-- the text is a URL whose MIME type is long, so that memory is needed to write it
+abbrev pub HasLongType : List ℕ → Type 0
+HasLongType t = (mime : Record) × (base64 : Bool) × (tail : List ℕ) × IsUrlWithParts t mime base64 tail × IsLong mime
+
 -- what reading the header of a URL returns. After an error the output is as it was.
 abbrev pub ReadsHeader : List ℕ → List ℕ → List ℕ → Result Header DataUrlError → Type 0
 ReadsHeader t before after (Ok h) = WritesHeader t before after h
 ReadsHeader t before after (Err url.NotADataUrl) = (staged t ≡ NoScheme) × (after ≡ before)
 ReadsHeader t before after (Err url.NoComma) = (staged t ≡ NoComma) × (after ≡ before)
-ReadsHeader t before after (Err url.OutOfMemory) = IsAcceptable (staged t) × (after ≡ before)
+ReadsHeader t before after (Err url.OutOfMemory) =
+    IsAcceptable (staged t) × (after ≡ before) × (HasEncodedHeader t ⊎ HasLongType t)

@@ -1,7 +1,7 @@
 //! The header of a data: URL (Fetch Standard, section 6), from its text in the input.
 
-ghost use Rattle.std.specs.Prelude.{◌≡◌, if◌then◌else◌, [], IfOk, IfSome, List, MatchOption, codes, map};
-ghost use Rattle.std.specs.Prelude.{length, string_bytes, take, true, ℕ};
+ghost use Rattle.std.specs.Prelude.{◌≡◌, if◌then◌else◌, [], IfErr, IfOk, IfSome, List, MatchOption};
+ghost use Rattle.std.specs.Prelude.{codes, false, length, map, string_bytes, take, true, ℕ};
 ghost use Rattle.std.specs.{Char.{to_ascii_lowercase}, Str.{bytes_eq, chars}};
 ghost use Rattle.data_url.specs.{Url.{without_tabs_and_newlines}, Fetch.{before_base64, with_plain}};
 ghost use Rattle.data_url.specs.Mime.{IsHead, Record, default_record};
@@ -90,7 +90,8 @@ pub(crate) fn serialise(
     is_serialised: bool,
 ) -> Result<Option<String>, AllocError>
     requires { is_serialised ≡ true → header_text (without_tabs_and_newlines header.now) ≡ header.now }
-    ensures { IfOk result (IsSerialised header.now) }
+    ensures text { IfOk result (IsSerialised header.now) }
+    ensures needed { IfErr result (λ e. is_serialised ≡ false) }
 {
     if is_serialised {
         return Ok(None);

@@ -1,8 +1,9 @@
 //! Splits the input: trims it, and finds its scheme and its first comma (URL Standard, section 4.4).
 
-ghost use Rattle.std.specs.Prelude.{◌≡◌, None, IfSome, IfNone, true};
+ghost use Rattle.std.specs.{Prelude.{◌≡◌, None, IfSome, IfNone, false, true}, List.{list_all}};
 ghost use Rattle.data_url.specs.Url.{after, comma, front, trimmed_text, without_tabs_and_newlines};
 ghost use Rattle.data_url.specs.Steps.{Header.{header_text}, Split.{HasNoScheme, IsHeaderAndTail, IsSchemeAndRest}};
+ghost use Rattle.data_url.specs.Steps.Split.{is_unencoded_path};
 
 use crate::classes::{Class, end_span, has, long_span, span};
 
@@ -59,7 +60,7 @@ pub(crate) struct Split<'a> {
     pub(crate) header: &'a str,
     /// The text after it.
     pub(crate) tail: &'a str,
-    /// Whether the header is known to be serialised as it is.
+    /// Whether the header has only bytes that are serialised as they are.
     pub(crate) is_serialised: bool,
 }
 
@@ -69,6 +70,8 @@ pub(crate) fn split_at_comma(text: &str) -> Option<Split<'_>>
     ensures found { IfSome result (λ f. IsHeaderAndTail text.now f.header.now f.tail.now) }
     ensures serialised { IfSome result (λ f. f.is_serialised ≡ true
         → header_text (without_tabs_and_newlines f.header.now) ≡ f.header.now) }
+    ensures encoded { IfSome result (λ f. f.is_serialised ≡ false
+        → list_all is_unencoded_path f.header.now ≡ false) }
     ensures none { IfNone result (after comma (front text.now) ≡ None) }
 {
     let bytes = text.as_bytes();

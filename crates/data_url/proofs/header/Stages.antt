@@ -1,6 +1,6 @@
 -- The stages of the Standard, from the input to its record. For `DataUrl::process`.
 use Rattle.std.proofs.Common.{Err, Ok, Result, ◌==◌, true, length-append, length-drop, take-append-drop, length-take}
-use Rattle.std.proofs.Common.{Option, unwrap_or, get_or-drop, get_or-take}
+use Rattle.std.proofs.Common.{append_assoc, Option, unwrap_or, get_or-drop, get_or-take}
 use Rattle.std.proofs.Common.{Some, refl, sym, ap, ◌∙◌, inl, inr, eqb-true, subst, arith, map, codes, ◌≢◌, is_some}
 use Rattle.std.proofs.Common.{drop_at, take_at, ◌≡◌, ℕ, suc, ◌<◌, ◌≤◌, Bool, false, List, [], ◌∷◌, ◌++◌, length, get_or}
 use Rattle.std.proofs.{Common.{take, drop, None}, lemmas.Slice.Eq.{bytes_eq-Decides}, Math.Seq.{drop-append_seam}}
@@ -9,6 +9,8 @@ use Rattle.std.proofs.lemmas.List.{get_or-reverse, Elements.{All-from_recursion,
 use Rattle.std.proofs.lemmas.List.{get_or_past, length-reverse, length-map}
 use Rattle.std.specs.{Option.{option_map}, Char.{to_ascii_lowercase}, List.{prefix_len, suffix_len, AllByRecursion}}
 use Rattle.std.specs.Str.{chars}
+use Rattle.std.{proofs.lemmas.List.Folds.{list_all-append}, specs.List.{list_all}}
+use Rattle.data_url.specs.{Parts.{HasEncodedHeader, is_serialised_as_is}, Steps.Split.{is_unencoded_path}}
 use Rattle.data_url.specs.{DataUrl.{IsAcceptable, IsUrlOf, IsUrlWithParts, url_tail}}
 use Rattle.data_url.specs.declared.DataUrl.{DataUrl}
 use Rattle.data_url.specs.Fetch.{NoScheme, outcome, plain_body, staged, before_base64, has_base64_suffix, media_of}
@@ -294,6 +296,27 @@ pub is_acceptable : (t rest header tail : List ℕ) → IsBytes (trimmed_text t)
     → IsHeaderAndTail rest header tail → IsAcceptable (staged t)
 is_acceptable t rest header tail b s h = subst IsAcceptable (sym (stages_accepted t rest header tail b s h
     (has_base64_suffix (header_text (without_tabs_and_newlines header))) refl)) tt
+
+-- in a header, which has neither ',' nor '#', the bytes that are serialised as they are pass either test
+same_tests : (s : List ℕ) → after 44 s ≡ None → after 35 s ≡ None
+    → list_all is_serialised_as_is s ≡ list_all is_unencoded_path s
+same_tests [] c h = refl
+same_tests (b ∷ s) c h =
+    let no_comma = lacks 44 b s c in
+    let no_hash = lacks 35 b s h in
+    grind (arith, same_tests s)
+
+-- if the header has a byte that is not serialised as it is, so has the text before the first comma
+pub header_encoded : (t rest header tail : List ℕ) → IsSchemeAndRest (trimmed_text t) rest
+    → IsHeaderAndTail rest header tail → list_all is_unencoded_path header ≡ false → HasEncodedHeader t
+header_encoded t rest header tail s h e =
+    let front = s.scheme ++ header in
+    let none : after 44 front ≡ None =
+    grind (arith, after-append, scheme_has_no_comma s.scheme s.spelled, h.no_comma) in
+    let cut : trimmed_text t ≡ front ++ 44 ∷ tail = cc (s.joined, h.joined, append_assoc s.scheme header (44 ∷ tail)) in
+    let first : before 44 (trimmed_text t) ≡ front = ap (before 44) cut ∙ before_at 44 front tail none in
+    let test : list_all is_serialised_as_is header ≡ false = same_tests header h.no_comma h.no_fragment ∙ e in
+    ap (list_all is_serialised_as_is) first ∙ list_all-append is_serialised_as_is s.scheme header ∙ grind (arith, test)
 
 -- a text of the scheme, a header, the first comma, and a tail is a URL with the record and the flag of the header
 pub is_url_with : (t rest header : List ℕ) {tail : List ℕ} {m : Record} {base64 : Bool} → IsBytes (trimmed_text t)

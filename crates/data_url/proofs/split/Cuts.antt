@@ -1,5 +1,6 @@
 -- The scheme, and the first comma of a text. For `after_scheme` and `split_at_comma`.
 use Rattle.std.proofs.{lemmas.Grind.{common_steps}, Common.{None, ◌⊎◌, eqb-true, append-nil, [], get_or-take}}
+use Rattle.std.proofs.Common.{◌≤◌, sym}
 use Rattle.std.proofs.Common.{length-take, codes, refl, ap, ◌∙◌, arith, ◌-◌, ◌≡◌, ◌≢◌, ℕ, ◌+◌, ◌<◌, true, false, List}
 use Rattle.std.proofs.Common.{◌∷◌, ◌++◌, length, get_or, take, drop, take-append-drop, take_all, map, nat_eq}
 use Rattle.std.proofs.{Common.{length-append}, lemmas.{Bool.{or_parts}, List.Sums.{prefix_len_passes}}}
@@ -7,7 +8,9 @@ use Rattle.std.proofs.lemmas.List.{get_or_at, take_more, length-map, Sums.{prefi
 use Rattle.std.proofs.lemmas.List.{map-append, take-append-le, take-map, drop_more, take_rest}
 use Rattle.std.proofs.lemmas.{Slice.Eq.{bytes_eq-Decides, starts_is}, Str.{IsCharBoundary-after_ascii}}
 use Rattle.std.proofs.lemmas.Str.{IsCharBoundary-from_take, IsUtf8-from_ascii}
-use Rattle.std.specs.{Char.{to_ascii_lowercase}, Str.{IsCharBoundary, IsUtf8}, List.{starts_with, prefix_len}}
+use Rattle.std.proofs.lemmas.List.Folds.{list_all_at}
+use Rattle.std.specs.{Char.{to_ascii_lowercase}, Str.{IsCharBoundary, IsUtf8}}
+use Rattle.std.specs.List.{list_all, prefix_len, starts_with}
 use Rattle.data_url.specs.{Mime.{Every}, Steps.Split.{HasNoScheme, IsSchemeAndRest, IsHeaderAndTail, in_header}}
 use Rattle.data_url.specs.{Steps.{Split.{is_unencoded_path}, Header.{header_text}}, Url.{without_tabs_and_newlines}}
 use Rattle.data_url.specs.Url.{is_tab_or_newline, after, front}
@@ -150,6 +153,16 @@ plain_before s items header n k e f h is same =
     let plain : (k : ℕ) → k < n → Plain (get_or s k 0) = λ k l. grind (arith, prefix_len_passes) in
     grind (arith, after-dropped_none, after_none, before_all, kept_whole, length-take, get_or-take)
 
+-- otherwise, the header has another byte
+pub other_before : (s items header : List ℕ) (n k : ℕ) → items ≡ s → n ≡ prefix_len is_unencoded_path items
+    → n + k ≤ length s → header ≡ take (n + k) s → n + k ≢ n → list_all is_unencoded_path header ≡ false
+other_before s items header n k e f l is ne =
+    let first : n ≡ prefix_len is_unencoded_path s = f ∙ ap (prefix_len is_unencoded_path) e in
+    let stops : is_unencoded_path (get_or s n 0) ≡ false =
+    rw (sym first) at (prefix_len_stops is_unencoded_path s 0 (omega (arith, first, ne, l))) in
+    rw is (list_all_at is_unencoded_path (take (n + k) s) n 0 (omega (arith, l, ne, length-take (n + k) s))
+    (ap is_unencoded_path (get_or-take (n + k) s n 0 (omega (arith, ne))) ∙ stops))
+
 -- one byte more of the scheme
 pub ruleset steps = (spells_passed, spells_all, spells_more)
 
@@ -159,4 +172,4 @@ pub ruleset spelling = (steps, differs, ends_early, dropped_nil, take_all, IsCha
 -- the lemmas for `split_at_comma`
 pub ruleset cuts_at = (no_header_end, at_hash, header_end_at, at_comma)
 
-pub ruleset commas = (cuts_at, IsCharBoundary-after_ascii, eqb-true, plain_before)
+pub ruleset commas = (cuts_at, IsCharBoundary-after_ascii, eqb-true, plain_before, other_before)

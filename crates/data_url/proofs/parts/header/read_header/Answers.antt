@@ -1,6 +1,7 @@
-use Rattle.std.proofs.Common.{[], ◌∙◌, arith, refl, sym}
+use Rattle.std.proofs.Common.{[], ◌∙◌, arith, inl, inr, refl, sym}
 use Rattle.data_url.specs.Mime.{default_record}
-use Rattle.data_url.proofs.header.Stages.{bytes_trimmed, empty_header, is_url_with, no_bytes, stages_no_scheme}
+use Rattle.data_url.proofs.header.Stages.{bytes_trimmed, empty_header, header_encoded, is_acceptable, is_url_with}
+use Rattle.data_url.proofs.header.Stages.{no_bytes, stages_no_scheme}
 use Rattle.data_url.proofs.parts.header.read_header.Goals as goal
 
 pub returns-in_default : goal.returns-in_default
@@ -18,6 +19,39 @@ returns-then-is_empty c =
           empty_header;
       written = c.write_default.ensures;
     }
+
+pub returns-in_default-serialise : goal.returns-in_default-serialise
+returns-in_default-serialise c =
+    let t = c.args.input.now in
+    let split = c.in-Some-split_at_comma.split in
+    let bytes = bytes_trimmed t (λ i. omega (arith, c.type_inv.input i)) in
+    let scheme = rw c.trim.ensures at c.in-Some.ensures.found in
+    let cut = c.in-Some-split_at_comma.ensures in (
+      is_acceptable t c.in-Some.rest.now split.header.now split.tail.now bytes scheme cut.found,
+      refl,
+      inl (header_encoded t c.in-Some.rest.now split.header.now split.tail.now scheme cut.found
+          (cut.encoded c.in_default-serialise.ensures.needed)),
+    )
+
+pub returns-in_default-write_media : goal.returns-in_default-write_media
+returns-in_default-write_media c =
+    let t = c.args.input.now in
+    let split = c.in-Some-split_at_comma.split in
+    let bytes = bytes_trimmed t (λ i. omega (arith, c.type_inv.input i)) in
+    let scheme = rw c.trim.ensures at c.in-Some.ensures.found in
+    let found = c.in-Some-split_at_comma.ensures.found in
+    let long = c.in_default-write_media.ensures in
+    let header = rw c.serialised_text.ensures.text at c.split_suffix-base64.ensures.header long.0 long.1 in (
+      is_acceptable t c.in-Some.rest.now split.header.now split.tail.now bytes scheme found,
+      long.3,
+      inr (
+        long.0,
+        c.split_suffix-base64.result.1,
+        split.tail.now,
+        is_url_with t c.in-Some.rest.now split.header.now bytes scheme found header,
+        long.2,
+      ),
+    )
 
 pub returns : goal.returns
 returns c =
