@@ -198,11 +198,12 @@ pub record WritesHeader (t before after : List ℕ) (h : Header) : Type 0 where
 abbrev pub is_serialised_as_is : ℕ → Bool
 is_serialised_as_is b = is_in_range 32 126 b && not (b == 63)
 
--- the text before the first comma has another byte, so that memory may be needed for its header
+-- before its first comma the trimmed text has a '?' or a byte outside 32 to 126. Memory may be needed to serialise its
+-- header then.
 abbrev pub HasEncodedHeader : List ℕ → Type 0
 HasEncodedHeader t = list_all is_serialised_as_is (before comma (trimmed_text t)) ≡ false
 
--- the text is a URL whose MIME type is long, so that memory is needed to write it
+-- the text is a URL whose MIME type is long
 abbrev pub HasLongType : List ℕ → Type 0
 HasLongType t = (mime : Record) × (base64 : Bool) × (tail : List ℕ) × IsUrlWithParts t mime base64 tail × IsLong mime
 

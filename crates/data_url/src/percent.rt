@@ -61,6 +61,7 @@ pub(crate) fn encode_next<'a: 'r, 'r>(
     let mut at = 0;
     for byte in part {
         let entry = entry(set, *byte);
+        // The length is read before the entry is written. After that, it would be loaded once more.
         let len = usize::from(entry[3]);
         buffer[at..at + 4].copy_from_slice(entry);
         at += len;

@@ -1,11 +1,12 @@
 -- Rows that are turned, and the row that a text begins with.
+use Rattle.std.proofs.Common.{append-nil, ⊎_elim}
 use Rattle.std.proofs.Common.{Bool, List, ap, append_assoc, arith, drop, drop-drop, get_or, length, map}
 use Rattle.std.proofs.Common.{length-drop, length-take-le, replicate, sym, take, take-append-drop}
 use Rattle.std.proofs.Common.{refl, take_all, take_at, true, ◌&&◌, w8, ℕ, ◌++◌, ◌+◌, ◌-◌, ◌*◌, ◌∙◌, ◌≡◌, ◌≤◌, ◌<◌}
 use Rattle.std.proofs.Math.Seq.{drop-append-add, take-append-add}
-use Rattle.std.proofs.lemmas.Bool.{agree_below_at, and_parts}
+use Rattle.std.proofs.lemmas.Bool.{agree_below_at, and_parts, cases_lt}
 use Rattle.std.proofs.lemmas.List.{drop-append-le, drop-replicate, length-replicate, map-append}
-use Rattle.std.proofs.lemmas.List.{take-replicate}
+use Rattle.std.proofs.lemmas.List.{take-append-le, take-replicate}
 use Rattle.std.proofs.lemmas.Simd.{SwzOk, SwzOk-from_below, pick_l-range_with_len, swz_l}
 use Rattle.std.specs.List.{range_with_len}
 use Rattle.data_url.proofs.forgiving_base64.Spaces.{alike, alike_same}
@@ -13,13 +14,23 @@ use Rattle.data_url.proofs.packing.Places.{are_small, looked_at, small_each}
 use Rattle.data_url.specs.declared.classes.lanes.TheConstants.{PLACES}
 use lib.Lanes.{Each1}
 
+-- the first n bytes of a text with zeros after it
+pub padded_front : (text : List ℕ) (n : ℕ) → n ≤ 16
+    → take n (text ++ replicate 16 0) ≡ take n text ++ replicate (n - length text) 0
+padded_front text n h = ⊎_elim
+    (λ l. let none : n - length text ≡ 0 = omega arith in
+    take-append-le n text (replicate 16 0) (omega arith)
+    ∙ sym (ap (λ k. take n text ++ replicate {A = ℕ} k 0) none ∙ append-nil (take n text)))
+    (λ m. let size : n ≡ length text + (n - length text) = omega arith in
+    ap (λ k. take k (text ++ replicate 16 0)) size ∙ take-append-add text (replicate 16 0) (n - length text)
+    ∙ ap (λ t. text ++ t) (take-replicate (n - length text) 16 0 (omega arith))
+    ∙ ap (λ t. t ++ replicate {A = ℕ} (n - length text) 0) (sym (take_all n text m)))
+    (cases_lt n (length text))
+
 -- the row that a short text begins with: the text, and then zeros
 pub first_of_short : (text : List ℕ) → length text ≤ 16
     → text ++ replicate (16 - length text) 0 ≡ take 16 (text ++ replicate 16 0)
-first_of_short text h =
-    let size : 16 ≡ length text + (16 - length text) = omega arith in
-    sym (ap (λ n. take n (text ++ replicate 16 0)) size ∙ take-append-add text (replicate 16 0) (16 - length text)
-    ∙ ap (λ t. text ++ t) (take-replicate (16 - length text) 16 0 (omega arith)))
+first_of_short text h = cc (padded_front text 16 (omega arith), take_all 16 text h)
 
 -- a text of n to 2 * n bytes, from its first n bytes and its last n bytes, which are turned to their place
 pub overlapped : (text first last turned row : List ℕ) (n at : ℕ) → n ≤ length text → length text ≤ 2 * n → n ≤ 8

@@ -4,7 +4,7 @@ use Rattle.std.proofs.Common.{append-nil, take-take, take_at, drop-drop, length-
 use Rattle.std.proofs.Common.{None, take-add, append_assoc, length-append, ◌/◌, ◌≡◌, ℕ, Bool, ◌+◌, ◌*◌, ◌≤◌, true, ◌&&◌}
 use Rattle.std.proofs.Common.{◌||◌, List, [], ◌∷◌, ◌++◌, map, length, ◌-◌, replicate, zero, suc}
 use Rattle.std.{proofs.Math.Seq.{take-append-add}, proofs.lemmas.Bool.{and_parts}, proofs.lemmas.List.{length-map}}
-use Rattle.std.proofs.lemmas.List.{take_rest, map-append, length-replicate, take-append-le}
+use Rattle.std.proofs.lemmas.List.{take_rest, map-append, length-replicate}
 use Rattle.std.{proofs.lemmas.List.Elements.{filter-append}, proofs.lemmas.List.Folds.{list_all-append}}
 use Rattle.std.proofs.lemmas.List.Sums.{list_all-from_AllPass, prefix_len-le-length, prefix_len_passes}
 use Rattle.std.{specs.Char.{is_ascii_whitespace}, specs.List.{list_all, prefix_len, filter, list_any}}
@@ -106,11 +106,20 @@ adds_then {held} {h1} {h2} a b f g =
       );
     }
 
+-- what was put after the first n bytes, as far as it is kept
+pub put_front : (old new row : List ℕ) (n k : ℕ) → n ≤ length old → k ≤ 16 → take (n + 16) new ≡ take n old ++ row
+    → take (n + k) new ≡ take n old ++ take k row
+put_front old new row n k within few put =
+    let size : n + k ≡ length (take n old) + k = omega (arith, length-take-le n old within) in
+    sym (take-take (n + k) (n + 16) new (omega (arith, few))) ∙ ap (take (n + k)) put
+    ∙ ap (λ m. take m (take n old ++ row)) size ∙ take-append-add (take n old) row k
+
 -- what was put after the first n bytes keeps these
 pub put_keeps : (old new row : List ℕ) (n : ℕ) → n ≤ length old → take (n + 16) new ≡ take n old ++ row
     → take n new ≡ take n old
 put_keeps old new row n h e =
-    cc (take-take n (n + 16) new (omega arith), e, take_at (take n old) row n (length-take-le n old h))
+    let n_is : n + 0 ≡ n = omega arith in
+    rw (n_is, append-nil (take n old)) at (put_front old new row n 0 h (omega arith) e)
 
 -- rest is the text after whole groups and white space, and held' is held followed by the bytes of these groups
 pub record Leaves (held text rest held' : List ℕ) : Type 0 where
@@ -252,29 +261,6 @@ pub symbols_end : (text : List ℕ) (after : ℕ) → prefix_len is_symbol (text
 symbols_end [] zero = omega arith
 symbols_end [] (suc after) = omega arith
 symbols_end (b ∷ text) after = grind (arith, symbols_end text after)
-
--- if a row has the first bytes of a text and then zeros, the text begins with the row's groups
-pub groups_within : (text row : List ℕ) (n m after : ℕ) → row ≡ take n text ++ replicate after 0
-    → m ≡ 4 * (prefix_len is_symbol row / 4) → (m ≤ length text) × (take m row ≡ take m text)
-groups_within text row n m after is groups =
-    let front = take n text in
-    let size = length-take n text in
-    let few : m ≤ length front = omega (arith, symbols_end front after, ap (prefix_len is_symbol) is, groups) in (
-      omega (arith, few, size),
-      ap (take m) is ∙ take-append-le m front (replicate after 0) few ∙ take-take m n text (omega (arith, few, size)),
-    )
-
--- if a row was decoded and put after n bytes, the groups that it begins with are held
-pub front_adds : (old new bytes row : List ℕ) (n m : ℕ) → length row ≡ 16 → m ≡ prefix_len is_symbol row / 4
-    → n + 16 ≤ length old → take (n + 16) new ≡ take n old ++ bytes → DecodesFront row bytes
-    → AddsGroups (take n old) (take (4 * m) row) (take (n + 3 * m) new)
-front_adds old new bytes row n m long groups room put decodes =
-    let within : 4 * m ≤ prefix_len is_symbol row = omega (arith, groups) in
-    let all = all_before is_symbol row (prefix_len is_symbol row) (4 * m) (prefix_passes is_symbol row) within in
-    let k : 4 * m + 0 ≡ 4 * m = omega arith in
-    let are = front_symbols row row m 0 refl all refl in
-    row_adds row old new bytes row n m (4 * m) room put decodes
-    (omega (arith, groups, prefix_len-le-length is_symbol row, long)) long (rw k at are)
 
 -- all that was read
 pub leaves_read : {held text rest held' : List ℕ} → Leaves held text rest held'

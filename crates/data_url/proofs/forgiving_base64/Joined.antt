@@ -1,18 +1,19 @@
--- The symbols that are left over, and then those that a text begins with, in one row. For `read_symbols`.
+-- The symbols that are left over, and then those that a text begins with, in one row. For `row_with`, and for what
+-- reads such rows.
 use Rattle.std.proofs.Common.{append_assoc, List, [], ◌∷◌, ap, append-nil, arith, drop, false, get_or, length}
 use Rattle.std.proofs.Common.{length-drop, length-take, length-take-le, map, refl, replicate, suc, sym, take, take-add}
-use Rattle.std.proofs.Common.{take-take, take_all, true, zero, ℕ, ⊎_elim, ◌%◌, ◌*◌, ◌++◌, ◌+◌, ◌-◌, ◌/◌}
+use Rattle.std.proofs.Common.{take-take, true, zero, ℕ, ◌%◌, ◌*◌, ◌++◌, ◌+◌, ◌-◌, ◌/◌}
 use Rattle.std.proofs.Common.{◌∙◌, ◌≡◌, ◌≤◌}
 use Rattle.std.proofs.Math.Seq.{drop-append-add, take-append-add}
-use Rattle.std.proofs.lemmas.Bool.{and_parts, cases_lt}
+use Rattle.std.proofs.lemmas.Bool.{and_parts}
 use Rattle.std.proofs.lemmas.List.{drop-take, length-map, map-append, nil_from_length, take-append-le}
-use Rattle.std.proofs.lemmas.List.{take-replicate}
 use Rattle.std.proofs.lemmas.List.Folds.{list_all-append}
 use Rattle.std.proofs.lemmas.List.Sums.{prefix_len-le-length}
 use Rattle.std.specs.List.{list_all, prefix_len}
 use Rattle.data_url.specs.Base64.{after_groups, groups, is_symbol, symbol_value}
 use Rattle.data_url.specs.declared.forgiving_base64.left_over.LeftOver as left
 use Rattle.data_url.specs.{Decoder.{State}, Steps.Holding.{Completes, Gains}, Steps.Lanes.{DecodesFront}}
+use Rattle.data_url.proofs.classes.FirstRows.{padded_front}
 use Rattle.data_url.proofs.forgiving_base64.Groups.{prefix_passes, symbols_alone, symbols_end}
 use Rattle.data_url.proofs.forgiving_base64.Holding.{completes_spaced}
 use Rattle.data_url.proofs.forgiving_base64.Padding.{after_groups-append, after_is, every_list_all, filter_all}
@@ -60,19 +61,6 @@ prefix_after : (q s : List ℕ) → list_all is_symbol q ≡ true
 prefix_after [] s h = omega arith
 prefix_after (x ∷ q) s h =
     let p = and_parts (is_symbol x) (list_all is_symbol q) h in grind (arith, prefix_after q s p.1)
-
--- the first n bytes of a text with zeros after it
-padded_front : (text : List ℕ) (n : ℕ) → n ≤ 16
-    → take n (text ++ replicate 16 0) ≡ take n text ++ replicate (n - length text) 0
-padded_front text n h = ⊎_elim
-    (λ l. let none : n - length text ≡ 0 = omega arith in
-    take-append-le n text (replicate 16 0) (omega arith)
-    ∙ sym (ap (λ k. take n text ++ replicate {A = ℕ} k 0) none ∙ append-nil (take n text)))
-    (λ m. let size : n ≡ length text + (n - length text) = omega arith in
-    ap (λ k. take k (text ++ replicate 16 0)) size ∙ take-append-add text (replicate 16 0) (n - length text)
-    ∙ ap (λ t. text ++ t) (take-replicate (n - length text) 16 0 (omega arith))
-    ∙ ap (λ t. t ++ replicate {A = ℕ} (n - length text) 0) (sym (take_all n text m)))
-    (cases_lt n (length text))
 
 -- such a row begins with the symbols left over and then with those of the text
 joins : (q text row : List ℕ) (p : ℕ) → length q ≡ p → p ≤ 3 → list_all is_symbol q ≡ true
@@ -127,9 +115,9 @@ some_read s text row three is count some first =
 cut : (s : List ℕ) (n : ℕ) → take n s ≡ take (n / 4 * 4) s ++ take (n % 4) (drop (n / 4 * 4) s)
 cut s n = let size : n ≡ n / 4 * 4 + n % 4 = omega arith in ap (λ k. take k s) size ∙ take-add (n / 4 * 4) (n % 4) s
 
--- the others, written in another way
-others : (s : List ℕ) (n : ℕ) → take (n % 4) (drop (n / 4 * 4) s) ≡ drop (n / 4 * 4) (take n s)
-others s n =
+-- those after the largest multiple of four, written in another way
+after_fours : (s : List ℕ) (n : ℕ) → take (n % 4) (drop (n / 4 * 4) s) ≡ drop (n / 4 * 4) (take n s)
+after_fours s n =
     let size : n / 4 * 4 + n % 4 ≡ n = omega arith in
     sym (drop-take (n / 4 * 4) (n % 4) s) ∙ ap (λ k. drop (n / 4 * 4) (take k s)) size
 
@@ -144,7 +132,7 @@ left_items row turned s n long sized within is turned_is = cc (
   turned_is,
   take-append-le (n % 4) (drop (n / 4 * 4) row) (take (n / 4 * 4) row)
       (omega (arith, long, length-drop (n / 4 * 4) row)),
-  others row n,
+  after_fours row n,
 )
 
 -- if there are none
@@ -163,12 +151,12 @@ cut_symbols row n all =
     let parts = and_parts _ _
     (sym (list_all-append is_symbol (take (n / 4 * 4) row) (take (n % 4) (drop (n / 4 * 4) row)))
     ∙ ap (list_all is_symbol) (sym (cut row n)) ∙ all) in
-    (parts.0, sym (ap (list_all is_symbol) (others row n)) ∙ parts.1)
+    (parts.0, sym (ap (list_all is_symbol) (after_fours row n)) ∙ parts.1)
 
 -- the others are symbols
-pub left_symbols : (row : List ℕ) (n : ℕ) → list_all is_symbol (take n row) ≡ true
+pub left_are_symbols : (row : List ℕ) (n : ℕ) → list_all is_symbol (take n row) ≡ true
     → list_all is_symbol (drop (n / 4 * 4) (take n row)) ≡ true
-left_symbols row n all = (cut_symbols row n all).1
+left_are_symbols row n all = (cut_symbols row n all).1
 
 -- the bytes of the groups that a row begins with
 decoded_groups : (row bytes : List ℕ) (n : ℕ) → length row ≡ 16 → n ≤ 16 → list_all is_symbol (take n row) ≡ true
@@ -276,11 +264,3 @@ module _ {F : Type 0} (d d' : State F) (text row bytes : List ℕ) (read count :
     completes = completes_front;
     held_are = is;
   }
-
--- what was put after the first n bytes, as far as it is kept
-pub put_front : (old new row : List ℕ) (n k : ℕ) → n ≤ length old → k ≤ 16 → take (n + 16) new ≡ take n old ++ row
-    → take (n + k) new ≡ take n old ++ take k row
-put_front old new row n k within few put =
-    let size : n + k ≡ length (take n old) + k = omega (arith, length-take-le n old within) in
-    sym (take-take (n + k) (n + 16) new (omega (arith, few))) ∙ ap (take (n + k)) put
-    ∙ ap (λ m. take m (take n old ++ row)) size ∙ take-append-add (take n old) row k

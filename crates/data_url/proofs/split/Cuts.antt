@@ -153,7 +153,7 @@ plain_before s items header n k e f h is same =
     let plain : (k : ℕ) → k < n → Plain (get_or s k 0) = λ k l. grind (arith, prefix_len_passes) in
     grind (arith, after-dropped_none, after_none, before_all, kept_whole, length-take, get_or-take)
 
--- otherwise, the header has another byte
+-- if the ',' follows later, the header has another byte
 pub other_before : (s items header : List ℕ) (n k : ℕ) → items ≡ s → n ≡ prefix_len is_unencoded_path items
     → n + k ≤ length s → header ≡ take (n + k) s → n + k ≢ n → list_all is_unencoded_path header ≡ false
 other_before s items header n k e f l is ne =

@@ -182,8 +182,8 @@ where
     }
 
     /// Calls the closure with the bytes of the blocks that a text begins with. If fewer than 64 bytes follow, or if
-    /// something is left over of the text before, also calls it with those of the symbols that follow. Returns how many
-    /// bytes of the text were read.
+    /// symbols were left over, then reads the symbols that follow, up to 64 with those left over, and calls the closure
+    /// with the bytes of their groups. Returns how many bytes of the text were read.
     #[inline(always)]
     fn read_start(&mut self, text: &[u8]) -> Result<usize, DecodeError<E>>
         requires callable { F.IsAlwaysCallable (state_of self.old).closure }
@@ -203,8 +203,8 @@ where
         Ok(taken + more)
     }
 
-    /// Feeds a text up to its first fault, as `feed_until_fault` does, in groups that are held until there are 64. A
-    /// text that begins with many blocks of symbols is fed faster in blocks.
+    /// Feeds a text up to its first fault, and holds the bytes of its groups until there are 64. Returns the place of
+    /// the fault and its kind, or the length of the text and None if there is no fault.
     #[inline(always)]
     fn feed_groups(
         &mut self,

@@ -1,5 +1,5 @@
-//! Decodes the groups of a text of base64 (RFC 4648, section 4): in rows of sixteen bytes as far as possible, and byte
-//! by byte otherwise.
+//! Decodes the groups of a text of base64 (RFC 4648, section 4), in rows of sixteen bytes. White space, `=` and faults
+//! that the rows do not pass over are read byte by byte.
 
 ghost use Rattle.std.specs.Prelude.{◌≡◌, ◌<◌, ◌≤◌, ◌++◌, ◌-◌, ◌*◌, ◌/◌, IsTrue, MatchOption, MatchResult};
 ghost use Rattle.std.specs.Prelude.{drop, length, replicate, slice_index, take};
@@ -31,7 +31,7 @@ impl HeldGroups {
             return 0;
         }
         let taken = self.decode_rows(text);
-        if self.len >= FULL || text.len() - taken < 16 {
+        if self.len >= FULL || text.len() - taken < ROW {
             return taken;
         }
         taken + self.decode_spaced_rows(&text[taken..])

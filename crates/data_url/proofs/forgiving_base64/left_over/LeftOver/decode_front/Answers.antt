@@ -1,7 +1,8 @@
 use Rattle.std.proofs.Common.{◌*◌, ◌+◌, ◌-◌, ◌/◌, ◌∙◌, ap, arith, length-take-le, refl}
 use Rattle.std.proofs.lemmas.List.{take_rest}
 use Rattle.data_url.specs.{Steps.Holding.{left_state}}
-use Rattle.data_url.proofs.forgiving_base64.Joined.{completes_front, fronts_first, fronts_more, joins_left, put_front}
+use Rattle.data_url.proofs.forgiving_base64.Joined.{completes_front, fronts_first, fronts_more, joins_left}
+use Rattle.data_url.proofs.forgiving_base64.Groups.{put_front}
 use Rattle.data_url.proofs.forgiving_base64.Steps.{sound}
 use Rattle.data_url.proofs.forgiving_base64.left_over.LeftOver.decode_front.Goals as goal
 

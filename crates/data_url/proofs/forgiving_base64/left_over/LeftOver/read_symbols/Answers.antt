@@ -2,7 +2,8 @@ use Rattle.std.proofs.Common.{◌*◌, ◌-◌, ◌/◌, ◌∙◌, ap, arith, l
 use Rattle.std.specs.List.{list_all}
 use Rattle.data_url.specs.{Base64.{is_symbol}, Steps.Holding.{left_state}}
 use Rattle.data_url.proofs.forgiving_base64.Groups.{prefix_passes}
-use Rattle.data_url.proofs.forgiving_base64.Joined.{fronts_first, gains_front, joins_left, put_front, some_read}
+use Rattle.data_url.proofs.forgiving_base64.Joined.{fronts_first, gains_front, joins_left, some_read}
+use Rattle.data_url.proofs.forgiving_base64.Groups.{put_front}
 use Rattle.data_url.proofs.forgiving_base64.Steps.{sound}
 use Rattle.data_url.proofs.forgiving_base64.left_over.LeftOver.read_symbols.Goals as goal
 
