@@ -181,9 +181,9 @@ where
         Ok(read)
     }
 
-    /// Calls the closure with the bytes of the blocks that a text begins with. If fewer than 64 bytes follow, or if
-    /// symbols were left over, then reads the symbols that follow, up to 64 with those left over, and calls the closure
-    /// with the bytes of their groups. Returns how many bytes of the text were read.
+    /// Calls the closure with the bytes of the blocks that a text begins with. If fewer than 64 bytes follow, then
+    /// reads the symbols that follow, and calls the closure with the bytes of their groups. Returns how many bytes of
+    /// the text were read.
     #[inline(always)]
     fn read_start(&mut self, text: &[u8]) -> Result<usize, DecodeError<E>>
         requires callable { F.IsAlwaysCallable (state_of self.old).closure }
@@ -193,10 +193,10 @@ where
             (state_of self.new) }
     {
         let taken = self.read_blocks(text)?;
-        if text.len() - taken >= BLOCK && self.state.is_between_groups() {
+        if text.len() - taken >= BLOCK || taken == text.len() {
             return Ok(taken);
         }
-        if taken == text.len() || !is_symbol(text[taken]) || self.state.padding > 0 {
+        if !is_symbol(text[taken]) || self.state.padding > 0 {
             return Ok(taken);
         }
         let more = self.read_front(&text[taken..])?;
