@@ -205,7 +205,8 @@ HasEncodedHeader t = list_all is_serialised_as_is (before comma (trimmed_text t)
 
 -- the text is a URL whose MIME type is long
 abbrev pub HasLongType : List ℕ → Type 0
-HasLongType t = (mime : Record) × (base64 : Bool) × (tail : List ℕ) × IsUrlWithParts t mime base64 tail × IsLong mime
+HasLongType t = (mime : Record) × (base64 : Bool) × (tail : List ℕ)
+    × IsUrlWithParts t mime base64 tail × IsLong mime
 
 -- what reading the header of a URL returns. After an error the output is as it was.
 abbrev pub ReadsHeader : List ℕ → List ℕ → List ℕ → Result Header DataUrlError → Type 0
