@@ -18,7 +18,7 @@ use std::alloc::{AllocError, Global};
 const FIRST_CAPACITY: usize = 64 * 1024;
 
 /// How many bytes of a tail the decoder is fed at once, at most.
-const FED_AT_ONCE: usize = 4 * 1024;
+const FED_AT_ONCE: usize = 16 * 1024;
 
 /// How many bytes of a long text are tested for marks before room is allocated for its body.
 const PROBED: usize = 4 * 1024;
@@ -79,7 +79,7 @@ where
     take_within(walk, most, usize::MAX, take)
 }
 
-/// Decodes a tail up to its first `#` or `%`, in parts of at most 4 KiB, which is the most that `feed_unescaped`
+/// Decodes a tail up to its first `#` or `%`, in parts of at most 16 KiB, which is the most that `feed_unescaped`
 /// accepts. So the decoder cannot read far past a fault. Returns the place of the `#` or `%`, or the length of the
 /// tail.
 fn feed_front<F, E>(decoder: &mut Decoder<F, E>, tail: &[u8]) -> Result<usize, DecodeError<E>>

@@ -1,7 +1,7 @@
 -- Percent-encoding with the entries of a table, and decoding of encoded texts. For `push_encoded`.
 use Rattle.std.proofs.Common.{append_assoc, ◌≡◌, ℕ, ◌*◌, ◌+◌, ◌-◌, ◌<◌, ◌&&◌, ◌||◌, Bool, false, true, List, [], ◌∷◌}
 use Rattle.std.proofs.Common.{length, take, drop, refl, ◌/◌, ◌%◌, ◌++◌, Option, None, Some, sym, ap, ◌∙◌, inl, inr}
-use Rattle.std.proofs.Common.{length-append}
+use Rattle.std.proofs.Common.{length-append, take-add}
 use Rattle.std.proofs.Common.{length-take-le, take-take, subst, append-nil, arith, suc, ◌≤◌, get_or, ◌==◌, slice_index}
 use Rattle.std.{proofs.Common.{nat_lt, take_all}, proofs.Math.Seq.{take-append-add}, proofs.lemmas.Bool.{agree_below}}
 use Rattle.std.proofs.lemmas.Bool.{agree_below_at, and_parts, eqb-true, and_left, cases_Bool, cond_both, both_ways}
@@ -323,18 +323,18 @@ pub record Plain (b : ℕ) : Type 0 where
   pub no_comma : (b == 44) ≡ false
   pub no_query : (b == 63) ≡ false
 
--- the bytes before byte i are written at the front of the buffer
-pub record PutTo (p : ℕ → Bool) (s : List ℕ) (i : ℕ) (buffer : List ℕ) (at : ℕ) : Type 0 where
-  pub few : at ≤ 3 * i
+-- the bytes before byte i are written to the buffer after what is at its front
+pub record PutTo (p : ℕ → Bool) (front s : List ℕ) (i : ℕ) (buffer : List ℕ) (at : ℕ) : Type 0 where
+  pub few : at ≤ length front + 3 * i
   pub long : length buffer ≡ 512
-  pub wrote : take at buffer ≡ encoded p (take i s)
+  pub wrote : take at buffer ≡ front ++ encoded p (take i s)
 
 -- if the entry of byte i is put after them, so are the bytes before byte i + 1
-pub put_more : (p : ℕ → Bool) (s : List ℕ) (i : ℕ) (buffer : List ℕ) (at : ℕ) (entry new : List ℕ)
-    → PutTo p s i buffer at
+pub put_more : (p : ℕ → Bool) (front s : List ℕ) (i : ℕ) (buffer : List ℕ) (at : ℕ) (entry new : List ℕ)
+    → PutTo p front s i buffer at
     → i < length s → at ≤ 512 → IsEntry p (get_or s i 0) entry → length new ≡ length (mid_of at (at + 4 - at) buffer)
-    → new ≡ entry → PutTo p s (i + 1) (put_mid at (at + 4 - at) buffer new) (at + slice_index entry 3)
-put_more p s i buffer at entry new m l within r n e =
+    → new ≡ entry → PutTo p front s (i + 1) (put_mid at (at + 4 - at) buffer new) (at + slice_index entry 3)
+put_more p before s i buffer at entry new m l within r n e =
     let width = slice_index entry 3 in
     let buffer' = put_mid at (at + 4 - at) buffer new in
     let short : width ≤ 3 = grind arith in
@@ -347,7 +347,28 @@ put_more p s i buffer at entry new m l within r n e =
     (omega (arith, m.long)) in
     let front = take-take (at + width) (at + 4) buffer' (omega arith) in
     let seam = take-append-add (take at buffer) entry width in
+    let joined = append_assoc before (encoded p (take i s)) (byte_encoding p (get_or s i 0)) in
     record { few = omega (arith, m.few); long = same_len_mid at (at + 4 - at) buffer new n ∙ m.long; wrote = cc }
+
+-- if the next m bytes are put after them, so are the bytes before byte i + m
+pub put_next : (p : ℕ → Bool) (s next : List ℕ) (i m : ℕ) (buffer : List ℕ) (at : ℕ) (buffer' : List ℕ) (at' : ℕ)
+    → PutTo p [] s i buffer at → next ≡ take m (drop i s) → i + m ≤ length s → length buffer' ≡ 512
+    → at' ≤ at + 3 * length next → take at' buffer' ≡ take at buffer ++ encoded p next
+    → PutTo p [] s (i + m) buffer' at'
+put_next p s next i m buffer at buffer' at' put is within long few wrote = record {
+  few = omega (arith, put.few, few, ap length is, length-take m (drop i s));
+  long = long;
+  wrote = cc (wrote, put.wrote, is, encoded-append p (take i s) (take m (drop i s)), take-add i m s);
+}
+
+-- if all bytes that are left are put after them, the buffer has what the text is encoded as
+pub put_last : (p : ℕ → Bool) (s : List ℕ) (i : ℕ) (buffer : List ℕ) (at : ℕ) (x : List ℕ) → PutTo p [] s i buffer at
+    → i ≤ length s → x ≡ take at buffer ++ encoded p (take (length s - i) (drop i s)) → x ≡ encoded p s
+put_last p s i buffer at x put within is =
+    let rest = take (length s - i) (drop i s) in
+    let whole : take i s ++ rest ≡ s = sym (take-add i (length s - i) s)
+    ∙ take_all (i + (length s - i)) s (omega (arith, within)) in
+    cc (is, put.wrote, encoded-append p (take i s) rest, whole)
 
 -- a text whose bytes are all below 128 is ASCII
 pub ascii_all : (s : List ℕ) → list_all (λ c. nat_lt c 128) s ≡ true → IsAscii s

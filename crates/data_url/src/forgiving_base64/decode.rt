@@ -283,7 +283,7 @@ where
     /// byte, or the length of the part. An error is that of `feed` with bytes before that place.
     #[inline(always)]
     pub(crate) fn feed_unescaped(&mut self, part: &[u8]) -> Result<usize, DecodeError<E>>
-        requires few { length part.now ≤ 4096 }
+        requires few { length part.now ≤ 16384 }
         requires callable { F.IsAlwaysCallable (state_of self.old).closure }
         requires going { (state_of self.old).failed ≡ false }
         ensures callable { F.IsAlwaysCallable (state_of self.new).closure }
