@@ -3,6 +3,7 @@
 ghost use Rattle.std.specs.Prelude.{◌≡◌, ◌%◌, ◌≤◌, Err, length, true, false};
 
 use super::alphabet::{decode_block, group_of, is_of_symbols, is_symbol};
+use super::gaps::spaces_len;
 use super::held::{FULL, HeldGroups};
 use super::left_over::LeftOver;
 use super::{DecodeError, InvalidBase64, InvalidBase64Details};
@@ -182,8 +183,8 @@ where
     }
 
     /// Calls the closure with the bytes of the blocks that a text begins with. If fewer than 64 bytes follow, then
-    /// reads the symbols that follow, and calls the closure with the bytes of their groups. Returns how many bytes of
-    /// the text were read.
+    /// reads the symbols that follow, and white space after them, and calls the closure with the bytes of their groups.
+    /// Returns how many bytes of the text were read.
     #[inline(always)]
     fn read_start(&mut self, text: &[u8]) -> Result<usize, DecodeError<E>>
         requires callable { F.IsAlwaysCallable (state_of self.old).closure }
@@ -200,7 +201,11 @@ where
             return Ok(taken);
         }
         let more = self.read_front(&text[taken..])?;
-        Ok(taken + more)
+        let read = taken + more;
+        if read == text.len() {
+            return Ok(read);
+        }
+        Ok(read + spaces_len(&text[read..]))
     }
 
     /// Feeds a text up to its first fault, and holds the bytes of its groups until there are 64. Returns the place of

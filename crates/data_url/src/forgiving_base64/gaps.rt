@@ -14,7 +14,16 @@ use crate::classes::lanes::{put, repeated, row, spliced};
 use crate::packing::pack_row;
 use std::simd::prelude::*;
 
-/// Returns how many bytes of white space a text begins with. The ends of lines that are most frequent are tested first.
+/// Returns how many bytes of white space a text begins with.
+#[inline(always)]
+pub(crate) fn spaces_len(text: &[u8]) -> usize
+    ensures within { result ≤ length text.now }
+    ensures spaces { result ≡ prefix_len is_ascii_whitespace text.now }
+{
+    text.len() - text.trim_ascii_start().len()
+}
+
+/// Returns what `spaces_len` does. The ends of lines that are most frequent are tested first.
 #[inline(always)]
 pub(crate) fn spaces_ahead(text: &[u8]) -> usize
     requires { 3 ≤ length text.now }
@@ -24,8 +33,8 @@ pub(crate) fn spaces_ahead(text: &[u8]) -> usize
     match (text[0], text[1]) {
         (b'\n', second) if second > b' ' => 1,
         (b'\r', b'\n') if text[2] > b' ' => 2,
-        (b'\n', b' ') => text.len() - text[2..].trim_ascii_start().len(),
-        _ => text.len() - text.trim_ascii_start().len(),
+        (b'\n', b' ') => 2 + spaces_len(&text[2..]),
+        _ => spaces_len(text),
     }
 }
 
