@@ -17,7 +17,7 @@ use Rattle.data_url.specs.{Steps.Holding.{ReadsTo, Refuses}, Steps.Window.{is_no
 use Rattle.data_url.specs.declared.forgiving_base64.DecodeError.{DecodeError}
 use Rattle.data_url.specs.declared.forgiving_base64.DecodeError.TheVariants.{InvalidBase64, WriteError}
 use Rattle.data_url.specs.declared.forgiving_base64.held.HeldGroups.{HeldGroups}
-use Rattle.data_url.proofs.{forgiving_base64.Groups.{prefix_passes, symbols_alone}, forgiving_base64.Padding.{every_list_all}}
+use Rattle.data_url.proofs.forgiving_base64.{Groups.{prefix_passes, symbols_alone}, Padding.{every_list_all}}
 use Rattle.data_url.proofs.forgiving_base64.Padding.{fault-append, fault_byte, fault_none, filter_all, is_pad, is_bad}
 use Rattle.data_url.proofs.{forgiving_base64.Padding.{length-after_groups, passed}, forgiving_base64.Steps.{IsSound}}
 use Rattle.data_url.proofs.forgiving_base64.Steps.{completes_none, completes_space, completes_text, fault_space}
