@@ -318,16 +318,17 @@ fn lines_of_base64() {
 /// fed at once.
 #[test]
 fn long_lines_of_base64() {
-    let text = lines(76, 60);
-    (4_080..4_240).for_each(|place| assert_lines_with_parts(&text, place));
+    let text = lines(76, 220);
+    let places = (4_080..4_240).chain(16_368..16_528);
+    places.for_each(|place| assert_lines_with_parts(&text, place));
 }
 
-/// The decoder is fed 4 KiB at once: text ends before, there and after, and two bytes before each end may be another
+/// The decoder is fed 16 KiB at once: text ends before, there and after, and two bytes before each end may be another
 /// part.
 #[test]
-fn clean_text_of_4_kib() {
-    for len in 4_090..4_102 {
-        let text = "QUJD".repeat(1_026)[..len].to_owned();
+fn clean_text_of_16_kib() {
+    for len in 16_378..16_390 {
+        let text = "QUJD".repeat(4_098)[..len].to_owned();
         assert_base64_url(&text);
         assert_lines_with_parts(&text, len - 2);
     }

@@ -14,7 +14,7 @@ use std::io::{self, Read, Write};
 use std::str;
 
 /// Room for the name of the call and its text.
-const BUFFER_LEN: usize = 65536;
+const BUFFER_LEN: usize = 64 * 1024;
 
 /// Writes a line.
 fn write_line<W: Write, D: Display>(out: &mut W, value: &D) -> io::Result<()> {

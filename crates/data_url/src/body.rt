@@ -17,8 +17,12 @@ use std::alloc::{AllocError, Global};
 /// If a body is likely to be shorter than its text, room is allocated first for at most this many bytes of the text.
 const FIRST_CAPACITY: usize = 64 * 1024;
 
-/// How many bytes of a tail the decoder is fed at once, at most.
+/// How many bytes of a tail the decoder is fed at once, at most, before the first escape.
 const FED_AT_ONCE: usize = 16 * 1024;
+
+/// How many bytes the decoder is fed at once, at most, from the first escape on. They are searched for the next escape
+/// before, so this is how far a tail is read past a fault.
+const FED_AFTER_ESCAPE: usize = 4 * 1024;
 
 /// How many bytes of a long text are tested for marks before room is allocated for its body.
 const PROBED: usize = 4 * 1024;
@@ -132,7 +136,7 @@ where
         requires callable { F.IsAlwaysCallable (state_of decoder.now).closure }
         requires going { (state_of decoder.now).failed ≡ false }
     { decoder.feed(bytes) };
-    take_within(&mut walk, most - place, FED_AT_ONCE, &mut feed)?;
+    take_within(&mut walk, most - place, FED_AFTER_ESCAPE, &mut feed)?;
     if !walk.has_ended() {
         return Ok(Stop::Paused(walk.place()));
     }

@@ -40,8 +40,8 @@ pub(crate) const BUFFER_LEN: usize = 512;
 /// quarter longer.
 const UNROLLED: usize = 8;
 
-/// Writes what bytes are encoded as, without tabs and newlines, to a buffer from a place on. Returns the place after
-/// it.
+/// Writes bytes to a buffer from a place on, percent-encoded and without tabs and newlines. Returns the place after
+/// what is written. Up to four bytes after that may be overwritten.
 #[inline(always)]
 fn put_encoded(set: EncodeSet, bytes: &[u8], buffer: &mut [u8; BUFFER_LEN], start: usize) -> usize
     requires room { start + 3 * length bytes.now < 512 }

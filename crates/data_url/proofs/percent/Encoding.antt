@@ -363,11 +363,11 @@ put_next p s next i m buffer at buffer' at' put is within long few wrote = recor
 
 -- if all bytes that are left are put after them, the buffer has what the text is encoded as
 pub put_last : (p : ℕ → Bool) (s : List ℕ) (i : ℕ) (buffer : List ℕ) (at : ℕ) (x : List ℕ) → PutTo p [] s i buffer at
-    → i ≤ length s → x ≡ take at buffer ++ encoded p (take (length s - i) (drop i s)) → x ≡ encoded p s
-put_last p s i buffer at x put within is =
+    → x ≡ take at buffer ++ encoded p (take (length s - i) (drop i s)) → x ≡ encoded p s
+put_last p s i buffer at x put is =
     let rest = take (length s - i) (drop i s) in
     let whole : take i s ++ rest ≡ s = sym (take-add i (length s - i) s)
-    ∙ take_all (i + (length s - i)) s (omega (arith, within)) in
+    ∙ take_all (i + (length s - i)) s (omega arith) in
     cc (is, put.wrote, encoded-append p (take i s) rest, whole)
 
 -- a text whose bytes are all below 128 is ASCII

@@ -183,8 +183,8 @@ where
     }
 
     /// Calls the closure with the bytes of the blocks that a text begins with. If fewer than 64 bytes follow, then
-    /// reads the symbols that follow, and white space after them, and calls the closure with the bytes of their groups.
-    /// Returns how many bytes of the text were read.
+    /// reads the symbols that follow, calls the closure with the bytes of their groups, and skips the white space after
+    /// them. Returns how many bytes of the text were read.
     #[inline(always)]
     fn read_start(&mut self, text: &[u8]) -> Result<usize, DecodeError<E>>
         requires callable { F.IsAlwaysCallable (state_of self.old).closure }

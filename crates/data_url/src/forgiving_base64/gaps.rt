@@ -23,7 +23,8 @@ pub(crate) fn spaces_len(text: &[u8]) -> usize
     text.len() - text.trim_ascii_start().len()
 }
 
-/// Returns what `spaces_len` does. The ends of lines that are most frequent are tested first.
+/// Returns how many bytes of white space a text of at least three bytes begins with. The ends of lines that are most
+/// frequent are tested first.
 #[inline(always)]
 pub(crate) fn spaces_ahead(text: &[u8]) -> usize
     requires { 3 ≤ length text.now }

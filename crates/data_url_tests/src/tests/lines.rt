@@ -155,7 +155,7 @@ fn lines_with_each_part_at_each_place(rt: HostRuntime) -> Result<(), Fail> {
 
 #[test]
 fn long_lines_with_each_part_around_the_end_of_a_stretch(rt: HostRuntime) -> Result<(), Fail> {
-    assert_places(&rt, rt.alloc(), LINE, 60, [4160, 4240])
+    assert_places(&rt, rt.alloc(), LINE, 220, [16448, 16528])
 }
 
 #[test]

@@ -54,7 +54,7 @@ returns-clause-written c =
     let p = in_set c.args.set in
     let part = c.split_at.result.0.now in
     let cut = c.split_at.ensures in
-    let all = put_last p part c.loop-read.read _ _ _ c.loop-read.invariant.put c.loop-read.invariant.within
+    let all = put_last p part c.loop-read.read _ _ _ c.loop-read.invariant.put
     c.put_encoded-at-2.ensures.written in
     cc (
       all,
@@ -74,4 +74,4 @@ returns-clause-text c =
     let bytes = first_bytes text (length part) (λ i. omega (arith, c.type_inv.bytes i)) in
     let small = subst (λ x. (i : ℕ) → get_or x i 0 < 256) (sym front) bytes in
     encoded_text c.args.set part _ small (put_last (in_set c.args.set) part c.loop-read.read _ _ _
-    c.loop-read.invariant.put c.loop-read.invariant.within c.put_encoded-at-2.ensures.written)
+    c.loop-read.invariant.put c.put_encoded-at-2.ensures.written)
