@@ -37,9 +37,9 @@
 //!
 //! - [`DataUrl::process`]: 1.62 to 2.9 with a MIME type, 1.05 without a header, 1.10 with `;base64` alone.
 //! - With [`DataUrl::decode_to_vec`]: 1.06 without a header, 1.27 with `;base64` alone, otherwise 1.53 to 33. With
-//!   [`DataUrl::decode`]: 0.93, 1.14, and 1.28 to 23.
+//!   [`DataUrl::decode`]: 0.93, 1.10, and 1.28 to 23.
 //! - [`mime::Mime`] from a text: 1.24 to 1.54, printed 1.13 to 1.36.
-//! - [`forgiving_base64::decode_to_vec`]: 2.6 to 8.7. A [`forgiving_base64::Decoder`]: 1.32 to 16; 0.59 for 8 symbols,
+//! - [`forgiving_base64::decode_to_vec`]: 2.2 to 8.7. A [`forgiving_base64::Decoder`]: 1.17 to 16; 0.51 for 8 symbols,
 //!   and 0.50 if it is fed ten at a time.
 //! - [`FragmentIdentifier::to_percent_encoded`]: 1.50 to 11, with `process` and `decode`.
 //!
