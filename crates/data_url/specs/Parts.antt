@@ -106,13 +106,17 @@ abbrev pub is_resumable : Bool → List ℕ → ℕ → LeftOver → Bool
 is_resumable flag tail place s =
     nat_le place (length tail) && (flag || ((s.pending == 0) && (s.padding == 0)))
 
--- after these bytes the rest of the body b is the rest of c: further on in the tail if the output
--- has four bytes or more, and
--- with the same fragment
+-- an output has no room for so many symbols that are left over and bytes of a tail: for base64, as in `IsFitting`
+abbrev pub HasNoRoom : Bool → ℕ → ℕ → ℕ → Type 0
+HasNoRoom flag pending len room = MatchBool flag (room / 3 * 4 + room % 3 + 1 < pending + len) (room < len)
+
+-- after these bytes the rest of the body b is the rest of c: further on in the tail if the output has four bytes or
+-- more, and with the same fragment. The output has no room for all that was left of the body.
 pub record MovesOn (b : Body) (room : ℕ) (bytes : List ℕ) (c : Body) : Type 0 where
   pub tail_stays : c.tail.now ≡ b.tail.now
   pub base64_stays : c.base64 ≡ b.base64
   pub forward : 4 ≤ room → b.place < c.place
+  pub too_small : HasNoRoom b.base64 b.left_over.pending (length (drop b.place b.tail.now)) room
   pub rest_is : rest_of b ≡ prepend bytes (rest_of c)
   pub fragment_is : after number_sign (drop b.place b.tail.now) ≡ after number_sign (drop c.place c.tail.now)
 

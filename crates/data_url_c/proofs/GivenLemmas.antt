@@ -23,7 +23,7 @@ use Rattle.data_url.specs.declared.mime.MimeFromStrError.TheVariants.{OutOfMemor
 use Rattle.data_url.specs.declared.mime.MimeParsingError.{MimeParsingError}
 use Rattle.data_url_c.specs.Answers.{Crosses, Answers, Given}
 use Rattle.data_url_c.specs.Gives.{GivesBody, GivesFragment, GivesMime, GivesType, IsUrlWith, RefusesUrl}
-use Rattle.data_url_c.specs.Steps.{HasBody, HasFragment, HasText}
+use Rattle.data_url_c.specs.Steps.{HasFragment, HasText}
 use Rattle.data_url_c.specs.declared.answer.DataUrlAnswer.{DataUrlAnswer}
 use Rattle.data_url_c.specs.declared.answer.Refusal.{Refusal}
 use Rattle.data_url_c.specs.declared.answer.Refusal.TheVariants.{InvalidBase64, NoComma, NoFragment, NotADataUrl}
@@ -59,18 +59,6 @@ url_with url {body} t u b f =
       staged_is = u.staged_is ∙ ap (λ o. Accepted (mime_text u.header) o (staged_part url)) b
           ∙ ap (λ o. Accepted (mime_text u.header) body o) e;
     }
-
--- a result that has the body of a URL is a result for the text of that URL
-pub gives_body : {x : List ℕ} (url : DataUrl) → IsUtf8 x → IsUrlOf x url → (given : Given)
-    → HasBody (url_body url) given → GivesBody x given
-gives_body url t u (Ok bytes) h = (_, url_with url t u h refl)
-gives_body url t u (Err (InvalidBase64 kind before)) h = (_, url_with url t u h refl)
-gives_body {x} url t u (Err OutOfMemory) h = (t, accepted x u.staged_is)
-gives_body url t u (Err NotADataUrl) h = absurd h
-gives_body url t u (Err NoComma) h = absurd h
-gives_body url t u (Err NotUtf8) h = absurd h
-gives_body url t u (Err NotAMimeType) h = absurd h
-gives_body url t u (Err NoFragment) h = absurd h
 
 -- the body of a text that is not a data: URL
 pub body_refused : (x : List ℕ) (refusal : Refusal) → RefusesUrl x refusal → GivesBody x (Err refusal)

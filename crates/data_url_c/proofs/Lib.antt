@@ -1,5 +1,4 @@
 pub mod BodyLemmas
 pub mod GivenLemmas
 pub mod OpenLemmas
-pub mod OutputLemmas
 pub mod WholeLemmas

@@ -24,10 +24,6 @@ use Rattle.data_url_c.specs.declared.answer.Refusal.TheVariants.{InvalidBase64, 
 use Rattle.data_url_c.specs.declared.answer.Refusal.TheVariants.{OutOfMemory}
 use Rattle.data_url_c.specs.declared.answer.Refusal.{Refusal}
 
--- true of every result
-abbrev pub AnyAnswer : {A : Type 0} → A → Type 0
-AnyAnswer x = Unit {0}
-
 -- the URL of the bytes, or why they are not a data: URL
 abbrev pub IsUrlFor : List ℕ → Result DataUrl Refusal → Type 0
 IsUrlFor x (Ok url) = IsUtf8 x × IsUrlOf x url
@@ -38,13 +34,6 @@ abbrev pub IsRefusalOf : DataUrlError → Refusal → Type 0
 IsRefusalOf url.NotADataUrl refusal = refusal ≡ NotADataUrl
 IsRefusalOf url.NoComma refusal = refusal ≡ NoComma
 IsRefusalOf url.OutOfMemory refusal = refusal ≡ OutOfMemory
-
--- the body; or, if its base64 is not valid, the bytes before the fault and the kind of the fault
-abbrev pub HasBody : Outcome → Given → Type 0
-HasBody body (Ok bytes) = body ≡ Good bytes.items
-HasBody body (Err (InvalidBase64 kind before)) = body ≡ Bad before.items kind
-HasBody body (Err OutOfMemory) = Unit {0}
-HasBody body (Err refusal) = ⊥
 
 -- the serialisation of a record
 abbrev pub HasText : Record → Given → Type 0
@@ -63,25 +52,6 @@ HasFragment url (Err (InvalidBase64 kind none)) =
     (bytes : List ℕ) × (url_body url ≡ Bad bytes kind) × (none.items ≡ [])
 HasFragment url (Err OutOfMemory) = Unit {0}
 HasFragment url (Err refusal) = ⊥
-
--- a piece was written after the first len bytes, if it fits
-pub record Writes (piece old : List ℕ) (len : ℕ) (new : List ℕ) (len' : ℕ) : Type 0 where
-  pub fits : len + length piece ≤ length old
-      → (len' ≡ len + length piece) × (new ≡ take len old ++ (piece ++ drop len' old))
-
--- the closure f was called with these bytes, piece by piece, and is g after that; `Ended` is true of
--- the end
-pub record GetsBytes {F E : Type 0} (step : F → List ℕ → Result (Unit {0}) E → F → Type 0) (f : F)
-    (bytes : List ℕ) (Ended : Type 0) (g : F) : Type 0 where
-  pub run : List (Call F E)
-  pub ran : IsRun step f run g
-  pub bytes_are : joined_pieces run ≡ bytes
-  pub ended : Ended
-
--- the closure was called with the bytes of a body; r is the error of its fault, or `Ok`
-abbrev pub GetsBody : {F E : Type 0} → (F → List ℕ → Result (Unit {0}) E → F → Type 0) → F → Outcome
-    → Result (Unit {0}) (DecodeError E) → F → Type 0
-GetsBody step f body r g = GetsBytes step f (outcome_bytes body) (Answers body AnyAnswer r) g
 
 -- if u has no fault, the state holds what is left over of u; otherwise later calls reject it
 abbrev pub IsKept : List ℕ → DataUrlBase64 → ℕ → Type 0

@@ -1,97 +1,32 @@
 //! Bodies, whole and in parts.
 
-ghost use Rattle.std.specs.Prelude.{◌≡◌, ◌≤◌, ◌+◌, MatchOption, length};
-ghost use Rattle.std.specs.Fn.{CalledAt};
-ghost use Rattle.data_url.specs.DataUrl.{Decodes, url_body, url_tail};
+ghost use Rattle.std.specs.Prelude.{◌≡◌, ◌≤◌, MatchOption, length};
+ghost use Rattle.data_url.specs.DataUrl.{url_body, url_tail};
 ghost use Rattle.data_url_c.specs.{Answers.{Answers}, Bodies.{EndsAs, IsGoodBody, StepsBody}, Gives.{GivesBody}};
-ghost use Rattle.data_url_c.specs.Steps.{AnyAnswer, GetsBody, HasBody, IsBodyOf, Writes};
+ghost use Rattle.data_url_c.specs.Steps.{IsBodyOf};
 
-use crate::answer::{DataUrlAnswer, DataUrlStep, Refusal, answer};
+use crate::answer::{DataUrlAnswer, DataUrlStep, Refusal, answer, show};
 use crate::base64::{DataUrlBase64, SPENT, left_over_in, state_with};
-use crate::status::{BAD_STATE, DONE, MORE, OUTPUT_TOO_SMALL, status_of, status_of_details};
+use crate::status::{BAD_STATE, DONE, MORE, OUTPUT_TOO_SMALL, status_of_details};
 use crate::url::url_of;
 use data_url::DataUrl;
-use data_url::forgiving_base64::DecodeError;
 use data_url::parts::{Body, Progress};
-use std::alloc::{AllocError, Global};
-use std::convert::Infallible;
-
-/// Calls a closure with the body of a URL. Returns the closure as well. The fragment is dropped.
-fn decode_body<F, E>(url: &DataUrl, answer: &mut Result<(), DecodeError<E>>, write: F) -> F
-where
-    F: FnMut(&[u8]) -> Result<(), E>,
-    E: Drop,
-    requires { F.IsAlwaysCallable write }
-    ensures { Decodes (CalledAt F.FnMut) write (length (url_tail url.now) + 1) (url_body url.now)
-        AnyAnswer answer.new result }
-{
-    let (answered, write) = url.decode_with(write);
-    *answer = match answered {
-        Ok(_) => Ok(()),
-        Err(error) => Err(error),
-    };
-    write
-}
-
-/// The body of a URL; if its base64 is not valid, the bytes before the fault and its kind.
-fn bytes_of(alloc: Global, url: &DataUrl) -> Result<Vec<u8>, Refusal>
-    ensures { HasBody (url_body url.now) result }
-{
-    let mut bytes = Vec::new(alloc);
-    let mut answer = Ok(());
-    decode_body(url, &mut answer, |piece: &[u8]| -> Result<(), AllocError> {
-        bytes.extend_from_slice(piece)
-    });
-    match answer {
-        Ok(()) => Ok(bytes),
-        Err(DecodeError::InvalidBase64(refusal)) => Err(Refusal::InvalidBase64(refusal, bytes)),
-        Err(DecodeError::WriteError(AllocError)) => Err(Refusal::OutOfMemory),
-    }
-}
-
-/// Writes a piece to an output, after the bytes that are written, if it fits. Their number goes up with it.
-#[inline(always)]
-fn push(out: &mut [u8], len: &mut usize, piece: &[u8])
-    ensures { Writes piece.now out.old len.old out.new len.new }
-{
-    if *len <= out.len() && piece.len() <= out.len() - *len {
-        let end = *len + piece.len();
-        out[*len..end].copy_from_slice(piece);
-        *len = end;
-    }
-}
-
-/// Calls a closure with the pieces of the body of a URL.
-fn call_with_body<F>(url: &DataUrl, write: &mut F) -> Result<(), DecodeError<Infallible>>
-where
-    F: FnMut(&[u8]) -> Result<(), Infallible>,
-    requires { F.IsAlwaysCallable write.old }
-    ensures { GetsBody (CalledAt F.FnMut) write.old (url_body url.now) result write.new }
-{
-    let mut answer = Ok(());
-    decode_body(url, &mut answer, |piece: &[u8]| -> Result<(), Infallible> {
-        write(piece)
-    });
-    answer
-}
+use std::alloc::Global;
 
 /// Decodes the body of a URL into an output that has room for its tail.
 fn decode_into(url: &DataUrl, out: &mut [u8]) -> DataUrlStep
     requires room { length (url_tail url.now) ≤ length out.old }
     ensures { EndsAs (url_body url.now) out.old out.new result.status result.len }
 {
-    let mut len = 0;
-    let mut write = |piece: &[u8]| -> Result<(), Infallible> {
-        push(out, &mut len, piece);
-        Ok(())
+    let part = Body::new(url).next_part(out);
+    let status = match part.progress {
+        Progress::End(_) => DONE,
+        Progress::Fault(details) => status_of_details(details),
+        Progress::More(_) => unreachable!(),
     };
-    match call_with_body(url, &mut write) {
-        Ok(()) => DataUrlStep { status: DONE, len },
-        Err(DecodeError::InvalidBase64(refusal)) => {
-            let status = status_of(&refusal);
-            DataUrlStep { status, len }
-        }
-        Err(DecodeError::WriteError(never)) => match never {},
+    DataUrlStep {
+        status,
+        len: part.len,
     }
 }
 
@@ -103,11 +38,16 @@ pub(crate) fn body(alloc: Global, text: &str, out: &mut [u8]) -> DataUrlAnswer
         Ok(url) => url,
         Err(refusal) => return answer(Err(refusal), out),
     };
-    if Body::new(&url).tail().len() > out.len() {
-        return answer(bytes_of(alloc, &url), out);
+    let tail_len = Body::new(&url).tail().len();
+    if tail_len <= out.len() {
+        let DataUrlStep { status, len } = decode_into(&url, out);
+        return DataUrlAnswer { status, len };
     }
-    let DataUrlStep { status, len } = decode_into(&url, out);
-    DataUrlAnswer { status, len }
+    let Ok(mut bytes) = vec![in alloc; 0u8; tail_len] else {
+        return answer(Err(Refusal::OutOfMemory), out);
+    };
+    let DataUrlStep { status, len } = decode_into(&url, &mut bytes);
+    show(status, &bytes[..len], out)
 }
 
 /// The smallest output that a body is decoded into, in bytes.

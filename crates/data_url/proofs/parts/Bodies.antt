@@ -2,13 +2,13 @@
 use Rattle.std.proofs.Common.{Bool, Err, List, None, Ok, Result, [], ap, append-nil, append_assoc}
 use Rattle.std.proofs.Common.{arith, drop}
 use Rattle.std.proofs.Common.{drop-drop, false, inl, inr, length, length-drop, length-take, refl, subst}
-use Rattle.std.proofs.Common.{min, true, ◌*◌, ◌+◌, ◌++◌}
+use Rattle.std.proofs.Common.{min, true, ◌*◌, ◌+◌, ◌++◌, ◌<◌}
 use Rattle.std.proofs.Common.{◌∙◌, ◌≡◌, ◌≤◌, ℕ}
 use Rattle.std.proofs.{lemmas.Bool.{cases_lt}, lemmas.List.{drop_all}}
 use Rattle.std.specs.declared.convert.Infallible.{Infallible}
 use Rattle.data_url.specs.Base64.{Kind}
 use Rattle.data_url.specs.Fetch.{Bad, Good, Outcome, outcome, plain_body}
-use Rattle.data_url.specs.Parts.{EndsAt, IsFitting, MovesOn, body_after, left_over_text, prepend}
+use Rattle.data_url.specs.Parts.{EndsAt, HasNoRoom, IsFitting, MovesOn, body_after, left_over_text, prepend}
 use Rattle.data_url.specs.Run.{IsRun, joined_pieces, refusal}
 use Rattle.data_url.specs.Decoder.{State, left_over}
 use Rattle.data_url.specs.Steps.Parts.{DecodesPartOf, DecodesWithin, HoldsLeft, IsResumed, LeavesAt, LeavesPart, Rests}
@@ -67,6 +67,7 @@ leaves_part s s' d d' tail most bytes (Ok (Paused place)) e e' k = record {
     | inl some ↦ k.goes some
     | inr none ↦ absurd (omega (arith, l, k.some_left))
   ];
+  some_left = k.some_left;
   after_is = k.after_is;
   rest_is = rw (e, e') at k.rest_is;
   plain = λ e. absurd (cc);
@@ -113,24 +114,32 @@ module _ {F : Type 0} {step : F → List ℕ → Result (Unit {0}) Infallible �
 fitting_some : (pending len room n : ℕ) → IsFitting pending len room n → pending ≤ 3 → 4 ≤ room → min 1 len ≤ n
 fitting_some pending len room n h few l = grind (arith)
 
+-- if not all of a tail is decoded, an output has no room for it
+fitting_left : (pending len room n : ℕ) → IsFitting pending len room n → n < len → HasNoRoom true pending len room
+fitting_left pending len room n h few = grind (arith)
+
 -- an output of four bytes is enough to go on
-pub leaves_at : (s s' : LeftOver) (tail : List ℕ) (pending most room : ℕ) (bytes : List ℕ) (stop : Stop) → pending ≤ 3
-    → IsFitting pending (length tail) room most → LeavesAt true s tail (min 1 (length tail) ≤ most) bytes s' (Ok stop)
-    → LeavesAt true s tail (4 ≤ room) bytes s' (Ok stop)
-leaves_at s s' tail pending most room bytes (Paused place) few fitting k = record {
+pub leaves_at : (s s' : LeftOver) (tail : List ℕ) (most room : ℕ) (bytes : List ℕ) (stop : Stop) → s.pending ≤ 3
+    → IsFitting s.pending (length tail) room most
+    → LeavesAt true s tail (min 1 (length tail) ≤ most) (most < length tail) bytes s' (Ok stop)
+    → LeavesAt true s tail (4 ≤ room) (HasNoRoom true s.pending (length tail) room) bytes s' (Ok stop)
+leaves_at s s' tail most room bytes (Paused place) few fitting k = record {
   within = k.within;
-  goes = λ l. k.goes (fitting_some pending (length tail) room most fitting few l);
+  goes = λ l. k.goes (fitting_some s.pending (length tail) room most fitting few l);
+  some_left = fitting_left s.pending (length tail) room most fitting k.some_left;
   after_is = k.after_is;
   rest_is = k.rest_is;
   plain = k.plain;
 }
-leaves_at s s' tail pending most room bytes (Ended place) few fitting k = k
+leaves_at s s' tail most room bytes (Ended place) few fitting k = k
 
 -- Bodies
 
 -- a body goes on at a place in the rest of its tail
 pub moves_on : {b c : Body} {room place : ℕ} {bytes : List ℕ} {s : LeftOver}
-    → Rests b.base64 b.left_over (drop b.place b.tail.now) (4 ≤ room) bytes place s → c.tail.now ≡ b.tail.now
+    → Rests b.base64 b.left_over (drop b.place b.tail.now) (4 ≤ room)
+    (HasNoRoom b.base64 b.left_over.pending (length (drop b.place b.tail.now)) room) bytes place s
+    → c.tail.now ≡ b.tail.now
     → c.base64 ≡ b.base64 → c.place ≡ b.place + place → c.left_over ≡ s → MovesOn b room bytes c
 moves_on {b} {c} {room} {place} {bytes} {s} h tail flag at left =
     let rest : drop place (drop b.place b.tail.now) ≡ drop c.place c.tail.now =
@@ -139,6 +148,7 @@ moves_on {b} {c} {room} {place} {bytes} {s} h tail flag at left =
       tail_stays = tail;
       base64_stays = flag;
       forward = λ l. omega (arith, h.goes l);
+      too_small = h.some_left;
       rest_is = cc (h.rest_is, rest, flag, left);
       fragment_is = h.after_is ∙ ap (after number_sign) rest;
     }
@@ -162,7 +172,7 @@ ends_at b place h = elim (cases_lt place (length (drop b.place b.tail.now))) [
 ]
 
 -- what is known where decoding ended
-pub stops_ended : (flag : Bool) (s s' : LeftOver) {tail rest : List ℕ} (Could : Type 0) {bytes : List ℕ}
-    {r : Result Stop Kind} {place : ℕ} → LeavesAt flag s tail Could bytes s' r → r ≡ Ok (Ended place) → tail ≡ rest
+pub stops_ended : (flag : Bool) (s s' : LeftOver) {tail rest : List ℕ} (Could Left : Type 0) {bytes : List ℕ}
+    {r : Result Stop Kind} {place : ℕ} → LeavesAt flag s tail Could Left bytes s' r → r ≡ Ok (Ended place) → tail ≡ rest
     → (body_after flag s rest ≡ Good bytes) × IsBodyEnd rest place
-stops_ended flag s s' Could h e same = rw (e, same) at h
+stops_ended flag s s' Could Left h e same = rw (e, same) at h

@@ -5,7 +5,7 @@ use Rattle.data_url.specs.Base64.{Kind, complete_bytes, first_fault, kind_of}
 use Rattle.data_url.specs.Decoder.{Finishes, State, left_over}
 use Rattle.data_url.specs.Errors.{IsRefused}
 use Rattle.data_url.specs.Fetch.{Bad, Good, outcome, outcome_bytes, plain_body}
-use Rattle.data_url.specs.Parts.{IsLeftOver, WritesFront, body_after, prepend}
+use Rattle.data_url.specs.Parts.{HasNoRoom, IsLeftOver, WritesFront, body_after, prepend}
 use Rattle.data_url.specs.Run.{Call, IsRun, joined_pieces, refusal}
 use Rattle.data_url.specs.Steps.Tail.{IsBodyEnd}
 use Rattle.data_url.specs.Url.{after, number_sign}
@@ -82,29 +82,30 @@ pub record DecodesWithin {F E : Type 0} (step : F → List ℕ → Result (Unit 
       (λ e. IsRefused (outcome_bytes (outcome true (left_over d ++ plain_body tail))) (joined_pieces run) e r)
 
 -- decoding the body of a tail after what is left over paused at the place in the tail, after these
--- bytes; it goes on, if it could
-pub record Rests (flag : Bool) (s : LeftOver) (tail : List ℕ) (Could : Type 0) (bytes : List ℕ)
+-- bytes; it goes on, if it could, and `Left` says why it paused
+pub record Rests (flag : Bool) (s : LeftOver) (tail : List ℕ) (Could Left : Type 0) (bytes : List ℕ)
     (place : ℕ) (s' : LeftOver) : Type 0 where
   pub within : place ≤ length tail
   pub goes : Could → 0 < place
+  pub some_left : Left
   pub after_is : after number_sign tail ≡ after number_sign (drop place tail)
   pub rest_is : body_after flag s tail ≡ prepend bytes (body_after flag s' (drop place tail))
   pub plain : flag ≡ false → (s'.pending ≡ 0) × (s'.padding ≡ 0)
 
 -- where decoding stopped after these bytes, or the kind of the fault
-abbrev pub LeavesAt : Bool → LeftOver → List ℕ → Type 0 → List ℕ → LeftOver → Result Stop Kind → Type 0
-LeavesAt flag s tail Could bytes s' (Ok (Paused place)) = Rests flag s tail Could bytes place s'
-LeavesAt flag s tail Could bytes s' (Ok (Ended place)) =
+abbrev pub LeavesAt : Bool → LeftOver → List ℕ → Type 0 → Type 0 → List ℕ → LeftOver → Result Stop Kind → Type 0
+LeavesAt flag s tail Could Left bytes s' (Ok (Paused place)) = Rests flag s tail Could Left bytes place s'
+LeavesAt flag s tail Could Left bytes s' (Ok (Ended place)) =
     (body_after flag s tail ≡ Good bytes) × IsBodyEnd tail place
-LeavesAt flag s tail Could bytes s' (Err kind) = body_after flag s tail ≡ Bad bytes kind
+LeavesAt flag s tail Could Left bytes s' (Err kind) = body_after flag s tail ≡ Bad bytes kind
 
 -- the same, for a decoder that calls a closure which returns no error
 abbrev pub LeavesPart : {E : Type 0} → LeftOver → List ℕ → ℕ → List ℕ → LeftOver → Result Stop (DecodeError E)
     → Type 0
 LeavesPart s tail most bytes s' (Ok stop) =
-    LeavesAt true s tail (min 1 (length tail) ≤ most) bytes s' (Ok stop)
+    LeavesAt true s tail (min 1 (length tail) ≤ most) (most < length tail) bytes s' (Ok stop)
 LeavesPart s tail most bytes s' (Err (InvalidBase64 kind)) =
-    LeavesAt true s tail (min 1 (length tail) ≤ most) bytes s' (Err kind)
+    LeavesAt true s tail (min 1 (length tail) ≤ most) (most < length tail) bytes s' (Err kind)
 LeavesPart s tail most bytes s' (Err (WriteError e)) = ⊥
 
 -- the closure f is called with the bytes that at most `most` bytes of the body of the tail complete
@@ -124,4 +125,4 @@ pub record WritesWithin (flag : Bool) (s : LeftOver) (tail before after : List �
     (r : Result Stop Kind) : Type 0 where
   pub bytes : List ℕ
   pub wrote : WritesFront bytes before after len
-  pub stops : LeavesAt flag s tail (4 ≤ length before) bytes s' r
+  pub stops : LeavesAt flag s tail (4 ≤ length before) (HasNoRoom flag s.pending (length tail) (length before)) bytes s' r

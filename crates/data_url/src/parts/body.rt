@@ -51,6 +51,7 @@ impl<'a> Body<'a> {
         ensures tail { result.tail.now ≡ url_tail url.now }
         ensures base64 { result.base64 ≡ is_base64 url.now }
         ensures start { result.place ≡ 0 }
+        ensures nothing { (result.left_over.pending ≡ 0) × (result.left_over.padding ≡ 0) }
     {
         Body {
             tail: url.tail.as_bytes(),

@@ -40,7 +40,7 @@ pub(super) fn fitting_len(pending: usize, text: &[u8], output: &[u8]) -> usize
     requires { pending ≤ 3 }
     ensures fitting { IsFitting pending (length text.now) (length output.now) result }
     ensures groups { pending + result ≤ length output.now / 3 * 4 + 3 }
-    ensures ends { 2 ≤ length output.now
+    ensures ends { pending ≤ length output.now + 1
         → pending + result ≤ length output.now / 3 * 4 + length output.now % 3 + 1 }
 {
     let groups = output.len() / 3 * 4;
@@ -72,8 +72,8 @@ fn write_plain(tail: &[u8], output: &mut [u8]) -> (usize, Result<Stop, InvalidBa
     (len, Ok(Stop::Paused(walk.place())))
 }
 
-/// Decodes the next bytes of a body of base64 into an output, after what is left over. An output of fewer than two
-/// bytes gets nothing, since the last bytes, of which there are up to two, have to fit.
+/// Decodes the next bytes of a body of base64 into an output, after what is left over. An output that has no room for
+/// the bytes of the symbols left over gets nothing, since the text may end after them.
 fn write_base64(
     left_over: &mut LeftOver,
     tail: &[u8],
@@ -82,10 +82,11 @@ fn write_base64(
     ensures { WritesWithin true left_over.old tail.now output.old output.new result.0
         left_over.new result.1 }
 {
-    if output.len() < 2 {
+    let pending = left_over.pending();
+    if pending > output.len() + 1 {
         return (0, Ok(Stop::Paused(0)));
     }
-    let most = fitting_len(left_over.pending(), tail, output);
+    let most = fitting_len(pending, tail, output);
     let mut len = 0;
     let mut write = |piece: &[u8]| -> Result<(), Infallible> {
         push(output, &mut len, piece);

@@ -10,11 +10,12 @@ returns-in-Ok c =
     let d = c.decode_base64_part.ensures in
     let h = part_passed d in
     let gave = part_gave d in
+    let pending = c.pending-pending.ensures.pending in
     let few : length (joined_pieces d.run) ≤ length c.args.output.now = omega (
       arith,
       gave.0,
-      c.pending.ensures,
-      c.fitting_len-most.ensures.ends,
+      c.pending-pending.ensures,
+      c.fitting_len-most.ensures.ends (omega (arith, c.if-pending-output.false)),
     ) in
     let output = passes_keeps h (λ f. f.0.ghost_name) (λ f p r f' k. search rules) in
     let len = passes_keeps h (λ f. f.1.ghost_name) (λ f p r f' k. search rules) in
@@ -23,8 +24,9 @@ returns-in-Ok c =
       wrote = passes_written h (λ f. (closure.captures f).output.now) (λ f. (closure.captures f).len)
           (λ f p f' k. search rules) (search rules) (search rules) (search (rules, output, len))
           (search (rules, output, len)) few;
-      stops = leaves_at c.args.left_over.now _ c.args.tail.now _ _ _ (joined_pieces d.run) c.in-Ok.stop
-          (c.pending.ensures.few) c.fitting_len-most.ensures.fitting (rw c.in-Ok.is at gave.1);
+      stops = leaves_at c.args.left_over.now _ c.args.tail.now _ _ (joined_pieces d.run) c.in-Ok.stop
+          (rw pending at c.pending-pending.ensures.few) (rw pending at c.fitting_len-most.ensures.fitting)
+          (rw c.in-Ok.is at gave.1);
     }
 
 pub returns-in-Err : goal.returns-in-Err
@@ -35,8 +37,8 @@ returns-in-Err c =
     let few : length (joined_pieces d.run) ≤ length c.args.output.now = omega (
       arith,
       gave.0,
-      c.pending.ensures,
-      c.fitting_len-most.ensures.ends,
+      c.pending-pending.ensures,
+      c.fitting_len-most.ensures.ends (omega (arith, c.if-pending-output.false)),
     ) in
     let output = passes_keeps h (λ f. f.0.ghost_name) (λ f p r f' k. search rules) in
     let len = passes_keeps h (λ f. f.1.ghost_name) (λ f p r f' k. search rules) in

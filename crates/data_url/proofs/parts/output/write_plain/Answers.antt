@@ -1,6 +1,7 @@
 use Rattle.std.proofs.Common.{arith, ap, false, length, refl, rules, ◌++◌, ◌<◌, ◌∙◌, ◌≡◌, ◌≤◌}
 use Rattle.data_url.specs.Run.{joined_pieces}
 use Rattle.data_url.specs.contracts.parts.output.fn.write_plain.write as closure
+use Rattle.data_url.proofs.body.Within.{paused_some}
 use Rattle.data_url.proofs.parts.{Bodies.{plain_goes, plain_good}, Outputs.{passes_keeps, passes_of, passes_written}}
 use Rattle.data_url.proofs.parts.output.write_plain.Goals as goal
 
@@ -50,6 +51,8 @@ returns c = λ s nothing.
       stops = record {
         within = omega (arith, from.short);
         goes = goes;
+        some_left = paused_some 0 (λ l. part.all (omega (arith, l, c.after_prefix-walk.ensures.few, ap length start)))
+            no_end;
         after_is = rw text at c.place.ensures.no_hash;
         rest_is = plain_goes s c.args.tail.now (joined_pieces t.run) c.place.result (rw nothing.0 (rw nothing.1 refl))
             (body ∙ ap (λ x. joined_pieces t.run ++ x) from.rest_is);

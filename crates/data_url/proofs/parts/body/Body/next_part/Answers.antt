@@ -1,4 +1,4 @@
-use Rattle.std.{proofs.Common.{Ok, length, rules, ◌≡◌, ◌≤◌}, proofs.lemmas.List.{take_rest}}
+use Rattle.std.{proofs.Common.{Ok, rules, ◌≡◌}, proofs.lemmas.List.{take_rest}}
 use Rattle.data_url.specs.declared.body.Stop.TheVariants.{Ended}
 use Rattle.data_url.proofs.parts.Bodies.{ends_at, stops_ended}
 use Rattle.data_url.proofs.parts.body.Body.next_part.Goals as goal
@@ -8,7 +8,7 @@ returns-in-Ok-Ended c =
     let w = c.write_body-len.ensures in
     let ended : c.write_body-len.result.1 ≡ Ok (Ended c.in-Ok-Ended.place) = search rules in
     let stops = stops_ended c.args.self.base64 c.args.self.left_over c.write_body-len.new.left_over
-    (4 ≤ length c.args.output.now) w.stops ended (take_rest c.args.self.tail.now c.args.self.place) in
+    _ _ w.stops ended (take_rest c.args.self.tail.now c.args.self.place) in
     record {
       bytes = w.bytes;
       wrote = w.wrote;
