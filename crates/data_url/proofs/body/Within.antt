@@ -13,8 +13,7 @@ use Rattle.std.specs.List.{filter}
 use Rattle.data_url.specs.Base64.{after_groups, complete_bytes, decoded, groups, is_symbol, is_valid, kind_of}
 use Rattle.data_url.specs.Base64.{rest_bytes}
 use Rattle.data_url.specs.Base64.{values, without_whitespace}
-use Rattle.data_url.specs.DataUrl.{Decodes, HandsOut}
-use Rattle.data_url.specs.Decoder.{Feeds, Finishes, IsTaken, State, left_over, start}
+use Rattle.data_url.specs.Decoder.{Feeds, Finishes, IsTaken, State, left_over}
 use Rattle.data_url.specs.{Laws.{GoesOn}}
 use Rattle.data_url.specs.Fetch.{outcome, outcome_bytes, plain_body}
 use Rattle.data_url.specs.{Parts.{prepend}, Pieces.{Walk}, Url.{after, number_sign}}
@@ -348,31 +347,3 @@ paused_some place {most} {total} {ended} all no_end = elim (cases_lt most total)
   | inl h ↦ h
   | inr h ↦ absurd (let e = all (omega arith) in cc)
 ]
-
--- A whole body
-
--- a new decoder decodes the whole body; the result, with the place at which the body ends
-pub whole_within : {F E : Type 0} {step : F → List ℕ → Result (Unit {0}) E → F → Type 0} {f g : F} {d d' : State F}
-    {tail : List ℕ} {r : Result Stop (DecodeError E)} {r' : Result ℕ (DecodeError E)} → d ≡ start f
-    → DecodesWithin step d tail (length tail) r d' → d'.closure ≡ g
-    → ((place : ℕ) → r ≡ Ok (Ended place) → r' ≡ Ok place) → ((x : DecodeError E) → r ≡ Err x → r' ≡ Err x)
-    → Decodes step f (length tail + 1) (outcome true (plain_body tail)) (IsBodyEnd tail) r' g
-whole_within {E = E} {step = step} {f = f} {g = g} {d' = d'} {tail = tail} {r = r} {r' = r'} new within after good bad =
-    let h = rw new at within in
-    record {
-      run = h.run;
-      ran = subst (IsRun step f h.run) after h.ran;
-      calls = omega (arith, h.calls);
-      gave = match_map (refusal h.run) _ _ _ _
-          (λ k. handed (joined_pieces h.run) r refl k.1)
-          (λ e k. record { bytes_begin = k.bytes_begin; answer = bad (WriteError e) k.answer })
-          h.gave;
-    }
-  where
-    handed : (bytes : List ℕ) (q : Result Stop (DecodeError E)) → q ≡ r
-        → StopsAt (start f) tail (length tail) bytes q d'
-        → HandsOut (outcome true (plain_body tail)) (IsBodyEnd tail) bytes r'
-    handed bytes (Ok (Paused place)) e k = absurd (omega (arith, k.some_left))
-    handed bytes (Ok (Ended place)) e k = rw (good place (sym e)) (grind (arith, k))
-    handed bytes (Err (InvalidBase64 kind)) e k = rw (bad (InvalidBase64 kind) (sym e)) (grind (arith, k))
-    handed bytes (Err (WriteError x)) e k = absurd k

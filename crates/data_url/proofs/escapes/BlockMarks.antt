@@ -222,16 +222,6 @@ mark_then e l a m = record {
   marked = λ _. rw e at m.marked;
 }
 
--- a mark that is looked for up to the end of the text is the next one
-pub mark_whole : {text : List ℕ} {from end mark : ℕ} → IsMarkUpTo text from end mark → end ≡ length text
-    → IsNextMark text from mark
-mark_whole {text} {from} {end} {mark} m e = record {
-  forward = m.forward;
-  within = m.within;
-  clear = m.clear;
-  marked = λ l. m.marked (omega arith) l;
-}
-
 -- the lemmas for `padded` and `last_marks`
 pub ruleset padding = (marks_padded, padded_is)
 

@@ -1,17 +1,17 @@
 -- What a call for the next part of a body leaves. For the functions that write bodies to outputs.
 use Rattle.std.proofs.Common.{Bool, Err, List, None, Ok, Result, [], ap, append-nil, append_assoc}
 use Rattle.std.proofs.Common.{arith, drop}
-use Rattle.std.proofs.Common.{drop-drop, false, inl, inr, length, length-drop, length-take, refl, subst}
+use Rattle.std.proofs.Common.{drop-drop, false, inl, inr, length, length-drop, length-take, subst}
 use Rattle.std.proofs.Common.{min, true, ◌*◌, ◌+◌, ◌++◌, ◌<◌}
 use Rattle.std.proofs.Common.{◌∙◌, ◌≡◌, ◌≤◌, ℕ}
 use Rattle.std.proofs.{lemmas.Bool.{cases_lt}, lemmas.List.{drop_all}}
 use Rattle.std.specs.declared.convert.Infallible.{Infallible}
 use Rattle.data_url.specs.Base64.{Kind}
 use Rattle.data_url.specs.Fetch.{Bad, Good, Outcome, outcome, plain_body}
-use Rattle.data_url.specs.Parts.{EndsAt, HasNoRoom, IsFitting, MovesOn, body_after, left_over_text, prepend}
+use Rattle.data_url.specs.Parts.{EndsAt, HasNoRoom, IsFitting, body_after, left_over_text, prepend}
 use Rattle.data_url.specs.Run.{IsRun, joined_pieces, refusal}
 use Rattle.data_url.specs.Decoder.{State, left_over}
-use Rattle.data_url.specs.Steps.Parts.{DecodesPartOf, DecodesWithin, HoldsLeft, IsResumed, LeavesAt, LeavesPart, Rests}
+use Rattle.data_url.specs.Steps.Parts.{DecodesPartOf, DecodesWithin, HoldsLeft, IsResumed, LeavesAt, LeavesPart}
 use Rattle.data_url.specs.Steps.Parts.{StopsAt}
 use Rattle.data_url.specs.Steps.Tail.{IsBodyEnd, rest_fragment}
 use Rattle.data_url.specs.Url.{after, number_sign}
@@ -25,11 +25,6 @@ use Rattle.data_url.proofs.escapes.Walking.{hash_at}
 use Rattle.data_url.proofs.{parts.Outputs.{Passes, no_refusal, passes_of}, runs.Runs.{match_at_none, match_map}}
 
 -- More bytes before an outcome
-
--- none
-prepend_nil : (o : Outcome) → o ≡ prepend [] o
-prepend_nil (Good bytes) = refl
-prepend_nil (Bad bytes kind) = refl
 
 -- some, and more before these
 pub prepend_more : (front bytes : List ℕ) (o : Outcome) → prepend front (prepend bytes o) ≡ prepend (front ++ bytes) o
@@ -134,24 +129,6 @@ leaves_at s s' tail most room bytes (Paused place) few fitting k = record {
 leaves_at s s' tail most room bytes (Ended place) few fitting k = k
 
 -- Bodies
-
--- a body goes on at a place in the rest of its tail
-pub moves_on : {b c : Body} {room place : ℕ} {bytes : List ℕ} {s : LeftOver}
-    → Rests b.base64 b.left_over (drop b.place b.tail.now) (4 ≤ room)
-    (HasNoRoom b.base64 b.left_over.pending (length (drop b.place b.tail.now)) room) bytes place s
-    → c.tail.now ≡ b.tail.now
-    → c.base64 ≡ b.base64 → c.place ≡ b.place + place → c.left_over ≡ s → MovesOn b room bytes c
-moves_on {b} {c} {room} {place} {bytes} {s} h tail flag at left =
-    let rest : drop place (drop b.place b.tail.now) ≡ drop c.place c.tail.now =
-    drop-drop place b.place b.tail.now ∙ cc (tail, at) in
-    record {
-      tail_stays = tail;
-      base64_stays = flag;
-      forward = λ l. omega (arith, h.goes l);
-      too_small = h.some_left;
-      rest_is = cc (h.rest_is, rest, flag, left);
-      fragment_is = h.after_is ∙ ap (after number_sign) rest;
-    }
 
 -- a body ends at a place in the rest of its tail
 pub ends_at : (b : Body) (place : ℕ) → IsBodyEnd (drop b.place b.tail.now) place → EndsAt b (b.place + place)
