@@ -125,4 +125,5 @@ pub record WritesWithin (flag : Bool) (s : LeftOver) (tail before after : List �
     (r : Result Stop Kind) : Type 0 where
   pub bytes : List ℕ
   pub wrote : WritesFront bytes before after len
-  pub stops : LeavesAt flag s tail (4 ≤ length before) (HasNoRoom flag s.pending (length tail) (length before)) bytes s' r
+  pub stops : LeavesAt flag s tail (4 ≤ length before) (HasNoRoom flag s.pending (length tail) (length before)) bytes
+      s' r
