@@ -66,10 +66,12 @@ fn write_plain(tail: &[u8], output: &mut [u8]) -> (usize, Result<Stop, InvalidBa
     if let Err(never) = take_after(prefix, &mut walk, most, &mut write) {
         match never {}
     }
-    if walk.has_ended() {
-        return (len, Ok(Stop::Ended(walk.end())));
-    }
-    (len, Ok(Stop::Paused(walk.place())))
+    let stop = if walk.has_ended() {
+        Stop::Ended(walk.end())
+    } else {
+        Stop::Paused(walk.place())
+    };
+    (len, Ok(stop))
 }
 
 /// Decodes the next bytes of a body of base64 into an output, after what is left over. An output that has no room for
