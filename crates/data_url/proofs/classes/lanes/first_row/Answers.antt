@@ -1,10 +1,7 @@
-use Rattle.std.proofs.Common.{◌∙◌, arith, length, sym, ℕ}
-use Rattle.std.proofs.lemmas.List.{drop-replicate, take-append-le}
+use Rattle.std.proofs.Common.{arith, length, ℕ}
+use Rattle.std.proofs.lemmas.List.{drop-replicate}
 use Rattle.data_url.proofs.classes.FirstRows.{first_of_short, overlapped}
 use Rattle.data_url.proofs.classes.lanes.first_row.Goals as goal
-
-pub returns-then-len-ge-ROW : goal.returns-then-len-ge-ROW
-returns-then-len-ge-ROW c = c.row.ensures ∙ sym (take-append-le 16 c.args.text.now _ (omega arith))
 
 pub returns-then-len-ge8 : goal.returns-then-len-ge8
 returns-then-len-ge8 c =

@@ -15,6 +15,3 @@ loop-index-preserved c =
       c.loop-index-test.true,
     )) l.invariant c.put.ensures
     (rw c.row.ensures at c.decode_row.ensures.bytes)
-
-pub returns : goal.returns
-returns c m few all = c.loop-index.invariant m (omega (arith, few)) all

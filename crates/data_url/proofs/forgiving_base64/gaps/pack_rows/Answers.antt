@@ -1,17 +1,8 @@
-use Rattle.std.proofs.Common.{arith, drop, length-drop, refl, sym, ◌∙◌}
+use Rattle.std.proofs.Common.{arith, drop, length-drop, sym, ◌∙◌}
 use Rattle.data_url.specs.Steps.Groups.{is_symbol_or_space}
 use Rattle.data_url.proofs.{classes.Lookups.{all_in_rows}, forgiving_base64.Groups.{row_long}}
 use Rattle.data_url.proofs.forgiving_base64.Packed.{non_symbols_small, row_spaced, row_symbols}
 use Rattle.data_url.proofs.forgiving_base64.gaps.pack_rows.Goals as goal
-
-pub loop-have-init : goal.loop-have-init
-loop-have-init c = record {
-  few = omega arith;
-  within = omega arith;
-  room = c.requires;
-  spaced = refl;
-  packed = refl;
-}
 
 pub pack_row-have-requires-clause-bits : goal.pack_row-have-requires-clause-bits
 pack_row-have-requires-clause-bits c =

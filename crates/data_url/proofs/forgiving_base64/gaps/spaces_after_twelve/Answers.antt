@@ -33,12 +33,3 @@ returns-then-text-eq10-clause-spaces c =
 pub returns-clause-spaces : goal.returns-clause-spaces
 returns-clause-spaces c =
     c.spaces_ahead.ensures.spaces ∙ ap (prefix_len is_ascii_whitespace) (take_rest c.args.text.now 12)
-
-pub returns-clause-within : goal.returns-clause-within
-returns-clause-within c = omega (
-  arith,
-  c.spaces_ahead.ensures.within,
-  ap length (take_rest c.args.text.now 12),
-  length-drop 12 c.args.text.now,
-  c.requires.0,
-)

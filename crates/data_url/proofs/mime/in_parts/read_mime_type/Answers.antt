@@ -16,8 +16,3 @@ returns-in-Ok c =
       wellformed = head_wellformed head written.1;
       written = written.2;
     }
-
-pub returns-in-Err : goal.returns-in-Err
-returns-in-Err c =
-    let long = c.in-Err.ensures in
-    (long.0, parses_parts _ _ _ _ long.0 (rw c.in-Some.is at c.read_head.ensures) long.1, long.2, long.3)

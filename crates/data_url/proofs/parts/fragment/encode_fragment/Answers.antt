@@ -1,10 +1,7 @@
 use Rattle.std.proofs.Common.{ap, arith, drop, length, length-drop, length-take, take, ◌-◌}
 use Rattle.std.proofs.lemmas.List.{take_rest}
-use Rattle.data_url.proofs.parts.Fragments.{encoded_more, encoded_start}
+use Rattle.data_url.proofs.parts.Fragments.{encoded_more}
 use Rattle.data_url.proofs.parts.fragment.encode_fragment.Goals as goal
-
-pub loop-read-init : goal.loop-read-init
-loop-read-init c = encoded_start c.args.text.now c.args.output.now
 
 pub loop-read-preserved : goal.loop-read-preserved
 loop-read-preserved c =

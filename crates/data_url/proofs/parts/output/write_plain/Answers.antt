@@ -26,9 +26,9 @@ returns c = λ s nothing.
           (search (rules, output, len)) few;
       stops = elim c.if-has_ended.branch [
         | goal.then-has_ended w ↦ rw w.stop-is (
-            plain_good s c.args.tail.now none body w.end.ensures.over,
-            rw text at w.end.ensures.end,
-          )
+          plain_good s c.args.tail.now none body w.end.ensures.over,
+          rw text at w.end.ensures.end,
+        )
         | goal.else-has_ended w ↦
             let from = rw text at w.place.ensures.from in
             let no_end : c.take_after.new.walk.ended ≡ false = search rules in

@@ -1,5 +1,5 @@
 use Rattle.std.proofs.Common.{ap, arith, length, refl, ◌∙◌}
-use Rattle.data_url.proofs.escapes.{Reading.{spells_none}, Walking.{byte_part, cut_at, ended_at, goes_part}}
+use Rattle.data_url.proofs.escapes.{Reading.{spells_none}, Walking.{cut_at, ended_at}}
 use Rattle.data_url.proofs.escapes.Walking.{looking_paid, not_cut, searched, searching_part, searching_percent}
 use Rattle.data_url.proofs.escapes.Walking.{slice_cut, slice_goes}
 use Rattle.data_url.proofs.escapes.cursor.Cursor.next_stretch.Goals as goal
@@ -22,13 +22,6 @@ pub returns-in-End-clause-knows : goal.returns-in-End-clause-knows
 returns-in-End-clause-knows c =
     let found = c.in-End.ensures.found in
     ended_at c.next_mark-mark.ensures.looking c.at_mark.ensures.text found.1 found.2 refl
-
-pub returns-in-Escape-clause-goes : goal.returns-in-Escape-clause-goes
-returns-in-Escape-clause-goes c =
-    let i = c.loop-self.invariant in
-    let m = c.next_mark-mark.ensures in
-    let q = rw (m.on.text_stays ∙ i.on.text_stays) at c.in-Escape.ensures.found.1 in
-    goes_part refl (byte_part i.search.passed (rw c.if-mark-place.true at q)) (grind arith) refl c.requires.some
 
 pub returns-then-end-mark-clause-goes : goal.returns-then-end-mark-clause-goes
 returns-then-end-mark-clause-goes c =

@@ -52,15 +52,6 @@ loop-place-preserved c =
           (rw c.between.ensures at c.in_default-mark_from.ensures);
     }
 
-pub last_marks-requires : goal.last_marks-requires
-last_marks-requires c =
-    omega (
-      arith,
-      ap length c.loop-place.invariant.on.text_stays,
-      ap length c.look_rest-rest.ensures.bytes,
-      length-drop c.loop-place.place c.loop-place.source.text.now,
-    )
-
 pub returns-in-Some-mark_from-2-clause-looking : goal.returns-in-Some-mark_from-2-clause-looking
 returns-in-Some-mark_from-2-clause-looking c =
     let i = c.loop-place.invariant in

@@ -1,9 +1,9 @@
-use Rattle.std.proofs.Common.{◌<◌, ℕ, ap, arith, inl, inr, length-take, refl, sym, take, ◌∙◌}
+use Rattle.std.proofs.Common.{ap, arith, inl, inr, length-take, sym, take, ◌∙◌}
 use Rattle.std.specs.Fn.{CalledAt}
 use Rattle.data_url.specs.Decoder.{state_of}
 use Rattle.data_url.proofs.forgiving_base64.Padding.{every_list_all}
 use Rattle.data_url.proofs.forgiving_base64.Steps.{decoded_three, decoded_two, finishes_called, finishes_nothing}
-use Rattle.data_url.proofs.forgiving_base64.Steps.{kept_symbol, finishes_refused, kind_left, valid_ends, valid_left}
+use Rattle.data_url.proofs.forgiving_base64.Steps.{finishes_refused, kind_left, valid_ends, valid_left}
 use Rattle.data_url.proofs.forgiving_base64.decode.Decoder.end.Goals as goal
 
 pub returns-in-1-clause-finished : goal.returns-in-1-clause-finished
@@ -57,15 +57,3 @@ returns-in_default-2-clause-finished g c =
       | goal.else-padding-gt0 v ↦ inl (omega arith)
     ]) in
     finishes_nothing step d s.pending every (omega arith) (omega arith) fits
-
-pub group_of-requires : goal.group_of-requires
-group_of-requires g c =
-    let d = c.args.self.now.state in
-    let is = λ (i : ℕ) (l : i < 2). kept_symbol d.symbols d.pending i (omega arith) (omega arith) d.pending_symbols in
-    (is 0 (omega arith), is 1 (omega arith), refl, refl)
-
-pub group_of-requires-in-3 : goal.group_of-requires-in-3
-group_of-requires-in-3 g c =
-    let d = c.args.self.now.state in
-    let is = λ (i : ℕ) (l : i < 3). kept_symbol d.symbols d.pending i (omega arith) (omega arith) d.pending_symbols in
-    (is 0 (omega arith), is 1 (omega arith), is 2 (omega arith), refl)

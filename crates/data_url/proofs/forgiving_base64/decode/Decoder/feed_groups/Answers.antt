@@ -90,14 +90,3 @@ returns-in_err-flush-2-clause-read g c =
     rw (p.1, p.2) (ends_within (CalledAt g.F.FnMut) c.loop-at.at i.within i.reads
     (flushed (state_of c.args.self.now) (take c.loop-at.at c.args.text.now) []
     (rw (append-nil (held_bytes c.loop-at.groups)) i.reads)))
-
-pub returns-clause-read : goal.returns-clause-read
-returns-clause-read g c =
-    let i = c.loop-at.invariant in
-    let flushed = rw c.as_slice-2.ensures at c.in_ok-flush-2.ensures.flushed in
-    record {
-      within = i.within;
-      reads = flushed (state_of c.args.self.now) (take c.loop-at.at c.args.text.now) []
-          (rw (append-nil (held_bytes c.loop-at.groups)) i.reads);
-      ends = omega (arith, i.within);
-    }

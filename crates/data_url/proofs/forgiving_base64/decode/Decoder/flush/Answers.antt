@@ -1,5 +1,5 @@
 use Rattle.std.proofs.Common.{◌++◌, ◌+◌, ◌-◌, arith, drop, length-append, length-drop, length-take-le, take}
-use Rattle.std.{proofs.lemmas.List.{nil_from_length, take_rest}, proofs.lemmas.Result.{err_from_is_err_and}}
+use Rattle.std.{proofs.lemmas.List.{take_rest}, proofs.lemmas.Result.{err_from_is_err_and}}
 use Rattle.std.specs.Fn.{CalledAt}
 use Rattle.data_url.proofs.forgiving_base64.Holding.{held_cut, reads_called, reads_passed, reads_refused}
 use Rattle.data_url.proofs.forgiving_base64.decode.Decoder.flush.Goals as goal
@@ -41,9 +41,3 @@ returns-then-at-bytes-clause-flushed g c d0 text b h =
     reads_passed (CalledAt g.F.FnMut) c.write-then-at-bytes.result rest b
     (omega (arith, length-drop c.loop-at.at c.args.bytes.now)) (c.loop-at.invariant.reads d0 text b h)
     (rw (take_rest c.args.bytes.now c.loop-at.at) at c.write-then-at-bytes.ensures.called)
-
-pub returns-clause-flushed : goal.returns-clause-flushed
-returns-clause-flushed g c d0 text b h =
-    let rest = drop c.loop-at.at c.args.bytes.now in
-    rw (nil_from_length rest (omega (arith, length-drop c.loop-at.at c.args.bytes.now)))
-    at (c.loop-at.invariant.reads d0 text b h)

@@ -1,16 +1,8 @@
-use Rattle.std.proofs.Common.{[], append-nil, ap, arith, length-take-le, take}
+use Rattle.std.proofs.Common.{[], append-nil, arith, length-take-le, take}
 use Rattle.std.{proofs.lemmas.Result.{err_from_is_err_and}, specs.Fn.{CalledAt}}
 use Rattle.data_url.proofs.forgiving_base64.Holding.{ends_within, reads_called, reads_refused, reads_whole}
 use Rattle.data_url.proofs.forgiving_base64.Steps.{sound}
 use Rattle.data_url.proofs.forgiving_base64.decode.Decoder.read_front.Goals as goal
-
-pub returns-then-len-eq0-clause-read : goal.returns-then-len-eq0-clause-read
-returns-then-len-eq0-clause-read g c =
-    let none = ap (λ n. take n c.decode_front-read.new.bytes) c.if-len-eq0.true in (
-      c.decode_front-read.ensures.sizes.0,
-      reads_whole (CalledAt g.F.FnMut) {f = c.args.self.now.write_bytes}
-          (sound c.args.self.now.state) c.requires.going (rw none at c.decode_front-read.ensures.read),
-    )
 
 pub returns-in_err-write-clause-read : goal.returns-in_err-write-clause-read
 returns-in_err-write-clause-read g c =

@@ -1,7 +1,7 @@
-use Rattle.std.proofs.Common.{◌+◌, ◌-◌, ◌∙◌, ◌≡◌, ap, arith, drop, drop-drop, length, length-drop, refl, sym, take_all}
+use Rattle.std.proofs.Common.{◌+◌, ◌∙◌, ◌≡◌, ap, arith, drop, drop-drop, length, length-drop, refl, sym, take_all}
 use Rattle.std.{proofs.lemmas.List.{take_rest}, specs.{Char.{is_ascii_whitespace}, List.{list_all, prefix_len}}}
 use Rattle.data_url.specs.Base64.{is_symbol}
-use Rattle.data_url.proofs.forgiving_base64.Groups.{leaves_all, leaves_read, row_leaves, row_leaves_at, row_long}
+use Rattle.data_url.proofs.forgiving_base64.Groups.{leaves_all, row_leaves, row_leaves_at, row_long}
 use Rattle.data_url.proofs.{classes.Lookups.{all_in_rows}, forgiving_base64.Groups.{prefix_passes}}
 use Rattle.data_url.proofs.forgiving_base64.held.HeldGroups.decode_rows.Goals as goal
 
@@ -85,19 +85,3 @@ loop-at-preserved c =
       rows = omega (arith, ends, c.saturating_sub-rows_end.ensures);
       leaves = rw (sym (drop-drop t l.at text) ∙ sym (take_rest rest t)) leaves;
     }
-
-pub returns-in_default : goal.returns-in_default
-returns-in_default c =
-    let l = c.loop-at in
-    let text = c.args.text.now in
-    let read : length text - length (drop l.at text) ≡ l.at =
-    omega (arith, length-drop l.at text, l.invariant.within) in
-    record { within = l.invariant.within; added = rw (sym read) (leaves_read l.invariant.leaves).1 }
-
-pub returns-clause-added : goal.returns-clause-added
-returns-clause-added c =
-    let l = c.loop-at in
-    let text = c.args.text.now in
-    let read : length text - length (drop l.at text) ≡ l.at =
-    omega (arith, length-drop l.at text, l.invariant.within) in
-    rw (sym read) (leaves_read l.invariant.leaves).1

@@ -1,7 +1,7 @@
-use Rattle.std.proofs.Common.{Err, ap, refl, rules, ◌∙◌}
+use Rattle.std.proofs.Common.{refl, rules}
 use Rattle.data_url.specs.contracts.forgiving_base64.left_over.fn.LeftOver.finish.finish_part as closure
-use Rattle.data_url.proofs.forgiving_base64.Resumed.{end_fits, end_invalid, end_valid}
-use Rattle.data_url.proofs.forgiving_base64.Steps.{bool_at_false, bool_at_true}
+use Rattle.data_url.proofs.forgiving_base64.Resumed.{end_fits, end_valid}
+use Rattle.data_url.proofs.forgiving_base64.Steps.{bool_at_true}
 use Rattle.data_url.proofs.parts.Outputs.{passes_keeps, passes_written}
 use Rattle.data_url.proofs.forgiving_base64.left_over.LeftOver.finish.Goals as goal
 
@@ -17,10 +17,3 @@ returns-in-Ok c =
           (λ f p f' k. search rules) (search rules) (search rules) (search (rules, output, len))
           (search (rules, output, len)) (search (rules, end_fits c.args.self)),
     )
-
-pub returns-in-Err : goal.returns-in-Err
-returns-in-Err c =
-    let h = end_invalid c.finish_part-decoded.ensures (c.in-Err.is ∙ ap Err c.fault_of.ensures) in
-    let output = ap (λ f. f.0.ghost_name) h.2 in
-    let now = ap (λ f. (closure.captures f).output.now) h.2 in
-    bool_at_false _ _ _ h.0 (ap Err h.1, search (rules, output, now))

@@ -1,5 +1,5 @@
 use Rattle.std.proofs.{Common.{arith, refl, sym, w64, ◌∙◌}, lemmas.Bool.{false≢true}}
-use Rattle.std.proofs.lemmas.Nat.Bits.{bit_at-trailing_zeros, bit_at-zero}
+use Rattle.std.proofs.lemmas.Nat.Bits.{bit_at-trailing_zeros}
 use Rattle.data_url.proofs.mime.FirstNames.{first_len, found_named, none_unset, one_cleared}
 use Rattle.data_url.proofs.mime.kept.KeptParameters.is_in_row.Goals as goal
 
@@ -23,6 +23,3 @@ loop-left-preserved c = one_cleared c.requires.indexed (omega arith) c.utf8.name
     {item = c.index.result.now} c.if-place-end.false c.index.ensures c.deref.ensures c.loop-left.invariant
     c.loop-left-test.true (omega arith) refl refl
     (λ same. false≢true (sym c.if-eq_ignore_ascii_case.false ∙ c.eq_ignore_ascii_case.ensures.test.1 same))
-
-pub returns-clause-none : goal.returns-clause-none
-returns-clause-none c _ k a l w = c.loop-left.invariant.unset k a l (rw c.loop-left-test.false (bit_at-zero _)) w
