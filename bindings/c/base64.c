@@ -2,20 +2,20 @@
 #include <stdio.h>
 
 static uint32_t decode(FILE *from, FILE *to) {
-    static char text[4096], room[4096];
+    static char text[4096], buffer[4096];
     struct data_url_base64_state state = DATA_URL_BASE64_STATE;
     size_t len, at;
     while ((len = fread(text, 1, sizeof text, from)) > 0) {
         for (at = 0; at < len;) {
-            struct data_url_fed fed = data_url_base64_feed(&state, text + at, len - at, room, sizeof room);
+            struct data_url_fed fed = data_url_base64_feed(&state, text + at, len - at, buffer, sizeof buffer);
             if (fed.status == DATA_URL_OUTPUT_TOO_SMALL) return fed.status;
-            fwrite(room, 1, fed.len, to);
+            fwrite(buffer, 1, fed.len, to);
             if (fed.status != DATA_URL_DONE) return fed.status;
             at += fed.read;
         }
     }
-    struct data_url_answer last = data_url_base64_finish(&state, room, sizeof room);
-    if (last.status == DATA_URL_DONE) fwrite(room, 1, last.len, to);
+    struct data_url_answer last = data_url_base64_finish(&state, buffer, sizeof buffer);
+    if (last.status == DATA_URL_DONE) fwrite(buffer, 1, last.len, to);
     return last.status;
 }
 

@@ -45,15 +45,15 @@
  *     #include <stdlib.h>
  *
  *     static uint32_t write_body(const char *url, size_t len, FILE *file) {
- *         static char room[65536];
+ *         static char buffer[65536];
  *         struct data_url_opened opened = data_url_open(url, len, NULL, 0);
  *         if (opened.status != DATA_URL_DONE && opened.status != DATA_URL_OUTPUT_TOO_SMALL) return opened.status;
  *         struct data_url_body_state state = DATA_URL_BODY_STATE(opened.is_base64);
  *         struct data_url_answer part;
  *         do {
- *             part = data_url_body_next(&state, url + opened.tail, opened.tail_len, room, sizeof room);
+ *             part = data_url_body_next(&state, url + opened.tail, opened.tail_len, buffer, sizeof buffer);
  *             if (part.status == DATA_URL_OUTPUT_TOO_SMALL) return part.status;
- *             fwrite(room, 1, part.len, file);
+ *             fwrite(buffer, 1, part.len, file);
  *         } while (part.status == DATA_URL_MORE && !ferror(file));
  *         return part.status;
  *     }
@@ -80,20 +80,20 @@
  *     #include <stdio.h>
  *
  *     static uint32_t decode(FILE *from, FILE *to) {
- *         static char text[4096], room[4096];
+ *         static char text[4096], buffer[4096];
  *         struct data_url_base64_state state = DATA_URL_BASE64_STATE;
  *         size_t len, at;
  *         while ((len = fread(text, 1, sizeof text, from)) > 0) {
  *             for (at = 0; at < len;) {
- *                 struct data_url_fed fed = data_url_base64_feed(&state, text + at, len - at, room, sizeof room);
+ *                 struct data_url_fed fed = data_url_base64_feed(&state, text + at, len - at, buffer, sizeof buffer);
  *                 if (fed.status == DATA_URL_OUTPUT_TOO_SMALL) return fed.status;
- *                 fwrite(room, 1, fed.len, to);
+ *                 fwrite(buffer, 1, fed.len, to);
  *                 if (fed.status != DATA_URL_DONE) return fed.status;
  *                 at += fed.read;
  *             }
  *         }
- *         struct data_url_answer last = data_url_base64_finish(&state, room, sizeof room);
- *         if (last.status == DATA_URL_DONE) fwrite(room, 1, last.len, to);
+ *         struct data_url_answer last = data_url_base64_finish(&state, buffer, sizeof buffer);
+ *         if (last.status == DATA_URL_DONE) fwrite(buffer, 1, last.len, to);
  *         return last.status;
  *     }
  *
@@ -115,10 +115,10 @@
  *
  *     int main(int count, char **arguments) {
  *         const char *type = count > 1 ? arguments[1] : "";
- *         char room[1024];
- *         const void *parts = room;
+ *         char buffer[1024];
+ *         const void *parts = buffer;
  *         if (!data_url_is_supported()) return 1;
- *         struct data_url_answer got = data_url_type_parts(type, strlen(type), room, sizeof room);
+ *         struct data_url_answer got = data_url_type_parts(type, strlen(type), buffer, sizeof buffer);
  *         if (got.status != DATA_URL_DONE) return 1;
  *         print("type", data_url_part_next(&parts, &got.len));
  *         print("subtype", data_url_part_next(&parts, &got.len));
@@ -167,9 +167,9 @@
  *
  * The first three never allocate. The next two do for a MIME type with more than 8 parameters, 20 times for 9 short
  * ones. All calls that read the header of a URL take one more if it has a '?', a tab, a newline or a byte to
- * percent-encode, and two if such a header is longer than 128 bytes and grows. data_url_body takes more if the room is
- * less than the length of the tail. The other calls take more for a longer text, for more parameters, and where a
- * value or a fragment is escaped. data_url_base64 and data_url_fragment take one less for an empty result.
+ * percent-encode, and two if such a header is longer than 128 bytes and grows. data_url_body takes one more, as long as
+ * the tail, if the room is less than that. The other calls take more for a longer text, for more parameters, and where
+ * a value or a fragment is escaped. data_url_base64 and data_url_fragment take one less for an empty result.
  *
  * PLATFORMS. Linux on x86-64 (level x86-64-v2 or higher) and aarch64. C99, C++11 and later. The library for x86-64
  * has each call for x86-64-v2 and for x86-64-v3. The first call asks the processor which of them it can run.

@@ -106,12 +106,13 @@ abbrev pub is_resumable : Bool → List ℕ → ℕ → LeftOver → Bool
 is_resumable flag tail place s =
     nat_le place (length tail) && (flag || ((s.pending == 0) && (s.padding == 0)))
 
--- an output has no room for so many symbols that are left over and bytes of a tail: for base64, as in `IsFitting`
+-- an output is shorter than a tail of this length or, for base64, has room for fewer symbols than are left over and the
+-- tail has bytes (`IsFitting`)
 abbrev pub HasNoRoom : Bool → ℕ → ℕ → ℕ → Type 0
 HasNoRoom flag pending len room = MatchBool flag (room / 3 * 4 + room % 3 + 1 < pending + len) (room < len)
 
 -- after these bytes the rest of the body b is the rest of c: further on in the tail if the output has four bytes or
--- more, and with the same fragment. The output has no room for all that was left of the body.
+-- more, and with the same fragment. The output was too short for the rest of the tail.
 pub record MovesOn (b : Body) (room : ℕ) (bytes : List ℕ) (c : Body) : Type 0 where
   pub tail_stays : c.tail.now ≡ b.tail.now
   pub base64_stays : c.base64 ≡ b.base64

@@ -126,7 +126,7 @@ pub(crate) fn split_suffix(header: &str) -> (&str, bool)
     }
 }
 
-/// Returns the parts of the MIME type of a header without its suffix and without whitespace at its ends, if it has one.
+/// Returns the head of the MIME type of a header without its suffix and without whitespace at its ends, if it has one.
 /// A missing type is `text/plain`.
 #[inline(always)]
 #[tactic(auto, using(crate::proofs::header::Stages::chars_printable, crate::proofs::header::Stages::begins_at))]

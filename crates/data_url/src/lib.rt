@@ -175,11 +175,13 @@ impl<'a> DataUrl<'a> {
     }
 
     /// Returns the body's bytes and the fragment
-    /// ([Fetch Standard, section 6](https://fetch.spec.whatwg.org/#data-url-processor)). Room for a body without tabs,
-    /// newlines and `%` is allocated once. For any other, room for at most 64 KiB, or for the bytes before the first of
-    /// these if they are more, is allocated first, and grows. For base64, it is room for all bytes after the comma, if
-    /// they are at most 64 KiB or the first 4 KiB have none of these and no `#`. What a fragment took is given back if
-    /// it is at least half and 4 KiB, or if the body has none of these.
+    /// ([Fetch Standard, section 6](https://fetch.spec.whatwg.org/#data-url-processor)).
+    ///
+    /// Room for a body without tabs, newlines and `%` is allocated once. For another body, room for 64 KiB or less is
+    /// allocated first, or more if more bytes come before the first of these. It grows while the body is read. For
+    /// base64, room is allocated by the length of the text after the comma, if that is at most 64 KiB, or if its first
+    /// 4 KiB have no tab, newline, `%` or `#`. Room for a fragment is given back if it is at least half of the room and
+    /// 4 KiB, or if the body has no tab, newline or `%`.
     ///
     /// Returns `InvalidBase64` with the first fault if the body is base64 that is not valid, and `OutOfMemory` if
     /// allocation fails. If both happen, it is `OutOfMemory` if allocation fails before the fault is found: room is

@@ -1,5 +1,5 @@
 //! MIME types, bodies, base64 and fragments in parts. Each call writes what comes next to an output that the caller
-//! lends, and returns plain values from which the next call goes on. No closure is called. Nothing is allocated, but
+//! lends, and returns values from which the next call goes on. No closure is called. Nothing is allocated, but
 //! for a header that has to be serialised and for a MIME type of more than eight parameters.
 //!
 //! For callers that cannot pass a closure, or that stop between two parts and go on later: a receiver that is full, a

@@ -1,17 +1,15 @@
 -- What private functions return: definitions that no contract of an exported function uses.
 pub mod Opening
-use Rattle.std.specs.Prelude.{Err, IsUtf8, List, MatchOption, None, Ok, Result, Some, [], drop, encode_utf8_all, false}
-use Rattle.std.specs.Prelude.{length, option_map, take, true, ℕ, ◌++◌, ◌+◌, ◌≡◌, ◌≤◌}
+use Rattle.std.specs.Prelude.{◌≡◌, [], Err, IsUtf8, List, MatchOption, None, Ok, Result, Some, encode_utf8_all, false}
+use Rattle.std.specs.Prelude.{option_map, true, ℕ}
 use Rattle.data_url.specs.Base64.{first_fault, kind_of}
-use Rattle.data_url.specs.DataUrl.{Answers, IsUrlOf, url_body, url_tail}
-use Rattle.data_url.specs.Fetch.{Bad, Good, Outcome, outcome_bytes}
+use Rattle.data_url.specs.DataUrl.{IsUrlOf, url_body, url_tail}
+use Rattle.data_url.specs.Fetch.{Bad, Good}
 use Rattle.data_url.specs.Mime.{Record, printed}
-use Rattle.data_url.specs.Run.{Call, IsRun, joined_pieces}
 use Rattle.data_url.specs.Url.{after, encoded_fragment, number_sign}
 use Rattle.data_url.specs.declared.DataUrl.{DataUrl}
 use Rattle.data_url.specs.declared.DataUrlError.TheVariants as url
 use Rattle.data_url.specs.declared.DataUrlError.{DataUrlError}
-use Rattle.data_url.specs.declared.forgiving_base64.DecodeError.{DecodeError}
 use Rattle.data_url.specs.declared.forgiving_base64.left_over.LeftOver.{LeftOver}
 use Rattle.data_url.specs.declared.parts.body.Body.{Body}
 use Rattle.data_url_c.specs.Answers.{Given, status_of_kind}

@@ -22,6 +22,7 @@ fn decode_into(url: &DataUrl, out: &mut [u8]) -> DataUrlStep
     let status = match part.progress {
         Progress::End(_) => DONE,
         Progress::Fault(details) => status_of_details(details),
+        // The output is as long as the tail, so the body has ended.
         Progress::More(_) => unreachable!(),
     };
     DataUrlStep {

@@ -8,7 +8,7 @@ use super::alphabet::is_symbol;
 
 /// What a text of base64 leaves over, from which decoding goes on: the symbols after its last group of four, up to
 /// three, and the number of `=` ([Infra Standard, forgiving-base64
-/// decode](https://infra.spec.whatwg.org/#forgiving-base64-decode)). It is a plain value, which may be stored and
+/// decode](https://infra.spec.whatwg.org/#forgiving-base64-decode)). It is a value that may be stored and
 /// copied.
 #[derive(Clone, Copy)]
 pub struct LeftOver {

@@ -17,9 +17,9 @@ use std::simd::prelude::*;
 impl HeldGroups {
     ghost use Rattle.data_url.specs.Steps.Groups.{AddsGroups, held_bytes};
 
-    /// Decodes whole groups that a text of sixteen bytes or more begins with, and adds their bytes. White space is
-    /// skipped, but not among the last bytes, fewer than sixteen. Returns how many bytes of the text were decoded: none
-    /// of a shorter text.
+    /// Decodes the groups that a text of sixteen bytes or more begins with, and adds their bytes. Skips white space.
+    /// It may stop before the last fifteen bytes. Returns how many bytes of the text were decoded: none of a shorter
+    /// text.
     #[inline(always)]
     pub(crate) fn decode_ahead(&mut self, text: &[u8]) -> usize
         requires room { self.old.len < 192 }

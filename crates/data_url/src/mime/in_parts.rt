@@ -180,7 +180,7 @@ enum Parameters<'a> {
 }
 
 impl<'a> Head<'a> {
-    /// Puts the record of a MIME type with these parts and parameters, in parts, at the start of an output. Returns
+    /// Puts the record of a MIME type with this head and these parameters, in parts, at the start of an output. Returns
     /// how many bytes it has, up to `usize::MAX`. It is compiled into its caller, where nothing but this length is
     /// left of it if the output is empty.
     #[inline(always)]
@@ -199,7 +199,7 @@ impl<'a> Head<'a> {
         }
     }
 
-    /// Writes the record of a MIME type with these parts and parameters, in parts, to the start of an output, if it
+    /// Writes the record of a MIME type with this head and these parameters, in parts, to the start of an output, if it
     /// has room. Returns how many bytes the record has, or an error if they are more than `LONGEST`.
     #[inline(always)]
     fn write_with(&self, parameters: Parameters<'_>, output: &mut [u8]) -> Result<usize, AllocError>
@@ -219,7 +219,7 @@ impl<'a> Head<'a> {
         Ok(len)
     }
 
-    /// Writes the record of a MIME type with these parts, in parts, to the start of an output, if it has room.
+    /// Writes the record of a MIME type with this head, in parts, to the start of an output, if it has room.
     /// Returns how many bytes the record has. Allocates only if many parameters are kept.
     #[inline(always)]
     pub(crate) fn write(&self, alloc: Global, output: &mut [u8]) -> Result<usize, AllocError>
@@ -236,7 +236,7 @@ impl<'a> Head<'a> {
         self.write_all(alloc, output)
     }
 
-    /// Writes the record of a MIME type with these parts, as `write` does.
+    /// Writes the record of a MIME type with this head, as `write` does.
     #[inline(never)]
     fn write_all(&self, alloc: Global, output: &mut [u8]) -> Result<usize, AllocError>
         requires type_ { IsTrue (is_token_text (chars self.now.type_.now)) }
@@ -253,7 +253,7 @@ impl<'a> Head<'a> {
         self.write_with(Parameters::OfText(&few.slices[..few.len]), output)
     }
 
-    /// Writes the record of a MIME type with these parts, as `write` does. It has more than eight parameters that are
+    /// Writes the record of a MIME type with this head, as `write` does. It has more than eight parameters that are
     /// kept.
     #[inline(never)]
     fn write_many(&self, alloc: Global, output: &mut [u8]) -> Result<usize, AllocError>

@@ -104,7 +104,8 @@ impl KeptParameters {
     }
 }
 
-/// Returns a byte for a name, the same in any ASCII case, from its last bytes, in which numbered names differ.
+/// Returns a hash of the last three bytes of a name. It is the same in any ASCII case. Names that end in a number
+/// differ in these bytes.
 #[inline(always)]
 fn fingerprint(name: &str) -> u8
     requires { 0 < length name.now }

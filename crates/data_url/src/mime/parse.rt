@@ -42,7 +42,7 @@ pub(super) struct Parameter<'a> {
 }
 
 impl<'a> Head<'a> {
-    /// The record of a MIME type with these parts. It allocates the record.
+    /// Returns the record of a MIME type with this head. Allocates the record.
     #[inline(always)]
     pub(crate) fn record(self, alloc: Global) -> Result<Mime, AllocError>
         requires type_ { IsTrue (is_token_text (chars self.type_.now)) }

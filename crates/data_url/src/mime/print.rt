@@ -8,7 +8,7 @@ use super::print_buffer::PrintBuffer;
 use crate::classes::{Class, long_span};
 use std::fmt;
 
-/// AddsToBuffer `;`, a name, `=` and a value: as it is if it is not empty and has only token code points, and
+/// Adds `;`, a name, `=` and a value: as it is if it is not empty and has only token code points, and
 /// otherwise in quotes.
 pub(super) fn push_parameter<W: fmt::Write>(
     buffer: &mut PrintBuffer,

@@ -77,9 +77,9 @@ fn unescaped(alloc: Global, quoted: &str) -> Result<String, AllocError>
     Ok(unsafe { String::from_utf8_unchecked(value) })
 }
 
-/// Copies the byte at a place or, if it is a `\` before another one, that one and the rows after it. Returns how many
-/// bytes of the text this takes, and how many are copied. These are two ways, so that the processor need not wait for
-/// the byte before it goes on.
+/// Copies the byte at a place. If it is a `\` before another byte, copies that one instead, and the rows after it.
+/// Returns how many bytes of the text this takes, and how many are copied. The two cases are two branches: the
+/// processor guesses which one comes, and does not wait until the byte is loaded.
 #[inline(always)]
 fn copy_next(bytes: &[u8], at: usize, value: &mut [u8], len: usize) -> (usize, usize)
     requires within { at < length bytes.now }

@@ -9,7 +9,7 @@ use crate::forgiving_base64::{InvalidBase64Details, LeftOver};
 
 /// A body of a data: URL that is decoded in parts ([Fetch Standard, section
 /// 6](https://fetch.spec.whatwg.org/#data-url-processor)): its tail, which is the text after the comma, whether it is
-/// base64, and where it goes on. It is a plain value, which may be stored and copied.
+/// base64, and where it goes on. It is a value that may be stored and copied.
 #[derive(Clone, Copy)]
 pub struct Body<'a> {
     tail: &'a [u8],
