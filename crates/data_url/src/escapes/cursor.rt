@@ -108,8 +108,7 @@ impl<'a> Cursor<'a> {
         match self.ahead {
             Ahead::End => return None,
             Ahead::Escape(value, end) => {
-                self.place = end;
-                self.ahead = Ahead::AfterEscape;
+                self.go_to(end, Ahead::AfterEscape);
                 return Some(Piece::Byte(value));
             }
             Ahead::AfterEscape if self.source.len() - self.place >= ESCAPE => {
@@ -137,8 +136,7 @@ impl<'a> Cursor<'a> {
             let end = place.saturating_add(most);
             let mark = self.block.next_mark(&mut self.source, from, end);
             if (end <= mark) & (end < self.source.len()) {
-                self.place = end;
-                self.ahead = Ahead::Unknown;
+                self.go_to(end, Ahead::Unknown);
                 return Some(Piece::Slice(self.source.cut(place, end)));
             }
             let slice = self.source.cut(place, mark);
@@ -146,31 +144,33 @@ impl<'a> Cursor<'a> {
                 AtMark::Stays => from = mark + 1,
                 AtMark::Passed => {
                     from = mark + 1;
-                    self.place = from;
+                    self.go_to(from, Ahead::Unknown);
                     if place < mark {
-                        self.ahead = Ahead::Unknown;
                         return Some(Piece::Slice(slice));
                     }
                 }
                 AtMark::Escape(value, end) if mark == place => {
-                    self.place = end;
-                    self.ahead = Ahead::AfterEscape;
+                    self.go_to(end, Ahead::AfterEscape);
                     return Some(Piece::Byte(value));
                 }
                 AtMark::Escape(value, end) => {
-                    self.place = mark;
-                    self.ahead = Ahead::Escape(value, end);
+                    self.go_to(mark, Ahead::Escape(value, end));
                     return Some(Piece::Slice(slice));
                 }
                 AtMark::End => {
-                    self.place = mark;
-                    self.ahead = Ahead::End;
-                    if mark == place {
-                        return None;
-                    }
-                    return Some(Piece::Slice(slice));
+                    self.go_to(mark, Ahead::End);
+                    return (place < mark).then_some(Piece::Slice(slice));
                 }
             }
         }
+    }
+
+    /// Goes to a place. `ahead` is what is known of the text there.
+    #[inline(always)]
+    fn go_to(&mut self, place: usize, ahead: Ahead)
+        ensures there { self.new ≡ record self.old { place = place; ahead = ahead } }
+    {
+        self.place = place;
+        self.ahead = ahead;
     }
 }
