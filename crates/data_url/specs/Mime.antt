@@ -86,7 +86,7 @@ pub data GivesValue : List ℕ → List ℕ → Option (List ℕ) → Type 0 whe
   -- '=' at the end of the input
   lone_equals : GivesValue (61 ∷ []) [] None
   -- '=' and a text that does not begin with '"'; HTTP whitespace at its end is removed
-  plain : {rest : List ℕ} (text : List ℕ) → Without is_semicolon text → DoesNotBegin is_quote text
+  unquoted : {rest : List ℕ} (text : List ℕ) → Without is_semicolon text → DoesNotBegin is_quote text
       → GivesValue (61 ∷ text) rest (unless_empty (without_end is_http_whitespace text))
   -- '=', a quoted string in quotes, and any code points up to the next ';'
   quoted : {value rest : List ℕ} (text junk : List ℕ) → Quoted text value

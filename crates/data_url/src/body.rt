@@ -2,7 +2,7 @@
 
 ghost use Rattle.std.specs.{Prelude.{◌+◌, ◌≡◌, ◌≤◌, false, length, true}, Fn.{CalledAt}};
 ghost use Rattle.data_url.specs.Steps.Chunks.{IsBodyPrefix, IsCallableUntilError, TakesWithin};
-ghost use Rattle.data_url.specs.Steps.Holding.{FeedsUnescaped};
+ghost use Rattle.data_url.specs.Steps.Holding.{FeedsToEscapeOrEnd};
 ghost use Rattle.data_url.specs.Steps.Tail.{IsBodyEnd};
 ghost use Rattle.data_url.specs.Fetch.{outcome, plain_body};
 ghost use Rattle.data_url.specs.DataUrl.{Decodes};
@@ -83,23 +83,23 @@ where
     take_within(walk, most, usize::MAX, take)
 }
 
-/// Decodes a tail up to its first `#` or `%`, in parts of at most 16 KiB, which is the most that `feed_unescaped`
-/// accepts. So the decoder cannot read far past a fault. Returns the place of the `#` or `%`, or the length of the
-/// tail.
+/// Decodes a tail up to its first `#` or `%`, in parts of at most 16 KiB, which is the most that
+/// `feed_to_escape_or_end` accepts. So the decoder cannot read far past a fault. Returns the place of the `#` or `%`,
+/// or the length of the tail.
 fn feed_front<F, E>(decoder: &mut Decoder<F, E>, tail: &[u8]) -> Result<usize, DecodeError<E>>
 where
     F: FnMut(&[u8]) -> Result<(), E>,
     requires callable { F.IsAlwaysCallable (state_of decoder.old).closure }
     requires going { (state_of decoder.old).failed ≡ false }
     ensures callable { F.IsAlwaysCallable (state_of decoder.new).closure }
-    ensures fed { FeedsUnescaped (CalledAt F.FnMut) (state_of decoder.old) tail.now result
+    ensures fed { FeedsToEscapeOrEnd (CalledAt F.FnMut) (state_of decoder.old) tail.now result
         (state_of decoder.new) }
 {
     let mut place = 0;
     while place < tail.len() {
         let rest = &tail[place..];
         let part = &rest[..rest.len().min(FED_AT_ONCE)];
-        let len = decoder.feed_unescaped(part)?;
+        let len = decoder.feed_to_escape_or_end(part)?;
         place += len;
         if len < part.len() {
             return Ok(place);
@@ -184,7 +184,7 @@ where
 
 /// Calls a closure with a body that is not base64: its prefix, and the pieces after it. Returns the place where the
 /// body ends.
-pub(crate) fn decode_plain<F, E>(
+pub(crate) fn decode_percent_encoded<F, E>(
     prefix: &[u8],
     mut walk: Walk<'_>,
     mut write: F,
@@ -205,7 +205,10 @@ where
 }
 
 /// Returns a body that is not base64 in a vector, and the place in the text where it ends.
-pub(crate) fn plain_to_vec(alloc: Global, tail: &[u8]) -> Result<(Vec<u8>, usize), DecodeToVecError>
+pub(crate) fn percent_encoded_to_vec(
+    alloc: Global,
+    tail: &[u8],
+) -> Result<(Vec<u8>, usize), DecodeToVecError>
     ensures { IsBodyInVec false tail.now result }
 {
     let (prefix, walk) = Walk::after_prefix(tail, tail.len());
@@ -216,7 +219,7 @@ pub(crate) fn plain_to_vec(alloc: Global, tail: &[u8]) -> Result<(Vec<u8>, usize
     let Ok(mut bytes) = Vec::with_capacity(alloc, capacity) else {
         return Err(DecodeToVecError::OutOfMemory);
     };
-    let ended = decode_plain(prefix, walk, |piece: &[u8]| -> Result<(), AllocError> {
+    let ended = decode_percent_encoded(prefix, walk, |piece: &[u8]| -> Result<(), AllocError> {
         bytes.extend_from_slice(piece)
     });
     match ended.0 {

@@ -18,7 +18,7 @@ pub mod parts;
 mod percent;
 mod split;
 
-use body::{base64_to_vec, decode_base64, decode_plain, plain_to_vec};
+use body::{base64_to_vec, decode_base64, decode_percent_encoded, percent_encoded_to_vec};
 use escapes::{Walk, fragment_at};
 use forgiving_base64::{DecodeError, DecodeToVecError, max_decoded_len};
 pub use fragment::FragmentIdentifier;
@@ -137,7 +137,7 @@ impl<'a> DataUrl<'a> {
             decode_base64(tail, write_body_bytes)
         } else {
             let (prefix, walk) = Walk::after_prefix(tail, tail.len());
-            decode_plain(prefix, walk, write_body_bytes)
+            decode_percent_encoded(prefix, walk, write_body_bytes)
         };
         match answer {
             Ok(place) => (
@@ -198,7 +198,7 @@ impl<'a> DataUrl<'a> {
         let (bytes, place) = if self.base64 {
             base64_to_vec(alloc, tail)?
         } else {
-            plain_to_vec(alloc, tail)?
+            percent_encoded_to_vec(alloc, tail)?
         };
         let fragment = fragment_at(self.tail, place).map(FragmentIdentifier::new);
         Ok((bytes, fragment))

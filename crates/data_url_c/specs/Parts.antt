@@ -36,7 +36,7 @@ pub record TakesText (u : List ℕ) (new : DataUrlBase64) (before after : List �
       (λ place. (status ≡ status_of_kind (kind_of u)) × (is_good_state new ≡ false))
 
 -- how much of an input is read: all of it if the output has room, and at least one byte
-pub record Reads (input room read : ℕ) : Type 0 where
+pub record ReadsWhatFits (input room read : ℕ) : Type 0 where
   pub within : read ≤ input
   pub all : input + 3 ≤ room → read ≡ input
   pub some : 0 < input → 0 < read
@@ -53,7 +53,7 @@ FeedsPart old new input before after r =
     MatchBool (is_good_state old)
     (MatchBool (nat_lt (length before) 4)
     (DoesNothing old new before after × (r.status ≡ 5) × (r.len ≡ 0) × (r.read ≡ 0))
-    (Reads (length input) (length before) r.read
+    (ReadsWhatFits (length input) (length before) r.read
     × TakesText (waiting_text old ++ take r.read input) new before after r.status r.len))
     (DoesNothing old new before after × (r.status ≡ 12) × (r.len ≡ 0) × (r.read ≡ 0))
 

@@ -6,7 +6,7 @@ use Rattle.std.proofs.lemmas.List.{drop_all, length-take-le}
 use borrow.Rule.Slice.PartMut.{put_mid}
 use Rattle.data_url.specs.Parts.{WritesFront}
 use Rattle.data_url.proofs.api.{prepend_more}
-use Rattle.uses.specs.Reads.{Reads, rest_body}
+use Rattle.uses.specs.Reads.{WritesNext, rest_body}
 use Rattle.uses.specs.declared.reader.Rest.{Rest}
 
 -- bytes that were written after others
@@ -21,8 +21,8 @@ writes_more {x} {y} {out} {mid} {part} {m} {n} same h k =
     }
 
 -- one part more was read, to the rest of an output
-pub reads_more : {a b c : Rest} {out mid part : List ℕ} {m n : ℕ} → length mid ≡ length out → Reads a out b mid m
-    → Reads b (drop m mid) c part n → Reads a out c (put_mid m (length mid - m) mid part) (m + n)
+pub reads_more : {a b c : Rest} {out mid part : List ℕ} {m n : ℕ} → length mid ≡ length out → WritesNext a out b mid m
+    → WritesNext b (drop m mid) c part n → WritesNext a out c (put_mid m (length mid - m) mid part) (m + n)
 reads_more {a} {b} {c} {out} {mid} {part} {m} {n} same h k =
     let over : drop (length mid - m) (drop m mid) ≡ [] =
     drop_all (length mid - m) (drop m mid) (omega (arith, length-drop m mid)) in

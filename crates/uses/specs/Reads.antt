@@ -13,7 +13,7 @@ rest_body (Faulty kind) = Bad [] kind
 
 -- some bytes were written to the start of an output, and the rest of it does not change: these, and then what is left
 -- of the body, are what was left of it before
-pub record Reads (rest : Rest) (before : List ℕ) (rest' : Rest) (after : List ℕ) (len : ℕ) : Type 0 where
+pub record WritesNext (rest : Rest) (before : List ℕ) (rest' : Rest) (after : List ℕ) (len : ℕ) : Type 0 where
   pub bytes : List ℕ
   pub wrote : WritesFront bytes before after len
   pub body_is : rest_body rest ≡ prepend bytes (rest_body rest')
@@ -26,5 +26,5 @@ IsFull (Faulty kind) room len = Unit {0}
 
 -- the next bytes of a body were written to an output, and fewer than four bytes of it are left if the body goes on
 pub record Fills (rest : Rest) (before : List ℕ) (rest' : Rest) (after : List ℕ) (len : ℕ) : Type 0 where
-  pub reads : Reads rest before rest' after len
+  pub reads : WritesNext rest before rest' after len
   pub full : IsFull rest' (length before) len

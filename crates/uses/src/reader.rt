@@ -2,7 +2,7 @@
 
 ghost use Rattle.std.specs.Prelude.{◌≡◌, ◌<◌, ◌≤◌, length};
 ghost use Rattle.data_url.specs.DataUrl.{url_body};
-ghost use Rattle.uses.specs.{Reads.{Fills, Reads, rest_body}, Steps.{bytes_left}};
+ghost use Rattle.uses.specs.{Reads.{Fills, WritesNext, rest_body}, Steps.{bytes_left}};
 ghost use Rattle.uses.specs.declared.reader.Rest.TheVariants.{More};
 
 use data_url::DataUrl;
@@ -22,7 +22,7 @@ pub enum Rest<'a> {
 
 /// Writes the next part of a body to the start of an output. Returns its length, and what is left of the body.
 fn read_part<'a>(body: Body<'a>, output: &mut [u8]) -> (usize, Rest<'a>)
-    ensures reads { Reads (More body.entry) output.old result.1 output.new result.0 }
+    ensures reads { WritesNext (More body.entry) output.old result.1 output.new result.0 }
     ensures forward { 4 ≤ length output.old → bytes_left result.1 < bytes_left (More body.entry) }
 {
     let Part { len, progress } = body.next_part(output);

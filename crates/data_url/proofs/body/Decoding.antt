@@ -1,5 +1,5 @@
 -- A closure or a decoder that gets a body piece by piece. For `take_within`, `take_after`, `decode_base64`,
--- `decode_plain` and their callers.
+-- `decode_percent_encoded` and their callers.
 use Rattle.std.proofs.Common.{Result, Ok, Err, refl, sym, ap, ◌∙◌, append_assoc, arith, length-append, Bool}
 use Rattle.std.proofs.Common.{Some, false, cond, length-drop, length-take, MatchOption, true, append-nil}
 use Rattle.std.proofs.Common.{◌≡◌, ℕ, ◌+◌, ◌≤◌, List, [], ◌∷◌, ◌++◌, Bor, length, Option, None, drop, take, inl, inr}
@@ -305,11 +305,11 @@ module _ {F E : Type 0} (step : F → List ℕ → Result (Unit {0}) E → F →
       (prefix_takes i some) (omega arith) s
 
   -- the closure was called with the whole body
-  pub plain_decoded : {f g : F} {text : List ℕ} {w : Walk} {most place : ℕ}
+  pub walk_decoded : {f g : F} {text : List ℕ} {w : Walk} {most place : ℕ}
       → TakesPart step f (walk_at_start text) most g w → w.rest ≡ [] → IsBodyEnd w.text place
       → Decodes step f (length text + 1) (outcome false (plain_body text)) (IsBodyEnd text) (Ok place) g
   unfolding outcome
-  plain_decoded {f} {g} {text} {w} {most} {place} part over end =
+  walk_decoded {f} {g} {text} {w} {most} {place} part over end =
       let t = part.takes in
       record {
         run = t.run;
@@ -322,10 +322,10 @@ module _ {F E : Type 0} (step : F → List ℕ → Result (Unit {0}) E → F →
       }
 
   -- the closure returned an error
-  pub plain_refused : {f g : F} {text : List ℕ} {e : E} {most : ℕ} → TakesUntil step f (walk_at_start text) most e g
+  pub walk_refused : {f g : F} {text : List ℕ} {e : E} {most : ℕ} → TakesUntil step f (walk_at_start text) most e g
       → Decodes step f (length text + 1) (outcome false (plain_body text)) (IsBodyEnd text) (Err (WriteError e)) g
   unfolding outcome
-  plain_refused {e = e} t = record {
+  walk_refused {e = e} t = record {
     run = t.run;
     ran = t.ran;
     calls = omega (arith, t.calls);

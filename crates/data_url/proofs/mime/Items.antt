@@ -4,7 +4,7 @@ use Rattle.std.proofs.Common.{one-add, ◌+◌, length-append, eqb-true, take-ap
 use Rattle.std.proofs.Common.{Bool, false, cond, List, [], ◌∷◌, ◌++◌, Option, true, None}
 use Rattle.std.{proofs.lemmas.Bool.{cases_Bool, not-false}, specs.List.{prefix_len}}
 use Rattle.data_url.specs.{CodePoints.{is_http_whitespace, is_token}, Mime.{BeginsParameters, DoesNotBegin, Every}}
-use Rattle.data_url.specs.Mime.{GivesValue, IsParameter, Item, Items, is_quote, lone_equals, nothing, plain, quoted}
+use Rattle.data_url.specs.Mime.{GivesValue, IsParameter, Item, Items, is_quote, lone_equals, nothing, unquoted, quoted}
 use Rattle.data_url.specs.{Mime.{unclosed, unless_empty, IsHead}, Steps.Parsing.{Reading, after_char, front_of}}
 use Rattle.data_url.specs.Steps.Parsing.{given_reading, in_name, in_value, item_in, named, unquoted_reading}
 use Rattle.data_url.specs.{Steps.Parsing.{quoted_reading, reading, reading_in}, Url.{without_end, without_start}}
@@ -37,9 +37,9 @@ no_quote [] d = refl
 no_quote (c ∷ s) d = grind arith
 
 -- a text without ';' that does not begin with '"', and then the rest, is read without quotes
-plain_is : (text rest : List ℕ) → Every in_value text → DoesNotBegin is_quote text → BeginsParameters rest
+unquoted_is : (text rest : List ℕ) → Every in_value text → DoesNotBegin is_quote text → BeginsParameters rest
     → given_reading (text ++ rest) ≡ record { value = unless_empty (without_end is_http_whitespace text); rest = rest }
-plain_is text rest e d b = grind (arith, no_quote, not_begins_append, ends_of_rest, front_is)
+unquoted_is text rest e d b = grind (arith, no_quote, not_begins_append, ends_of_rest, front_is)
 
 -- reading a text that gives a value, and then the rest, returns the value and the rest
 reading_is : (tail rest : List ℕ) (value : Option (List ℕ)) → GivesValue tail rest value → BeginsParameters rest
@@ -47,7 +47,7 @@ reading_is : (tail rest : List ℕ) (value : Option (List ℕ)) → GivesValue t
 reading_is _ _ _ (nothing {rest = []}) b = refl
 reading_is _ _ _ (nothing {rest = c ∷ rest}) b = grind arith
 reading_is _ _ _ lone_equals b = refl
-reading_is _ _ _ (plain {rest} text e d) b = plain_is text rest e d b
+reading_is _ _ _ (unquoted {rest} text e d) b = unquoted_is text rest e d b
 reading_is _ _ _ (quoted {value} {rest} text junk h e) b =
     grind (arith, append_assoc, closed_reading, front_is in_value junk rest e (ends_of_rest in_value refl rest b))
 reading_is _ _ _ (unclosed {value} text h) b = rw (append-nil text) (open_reading text value h)
@@ -85,7 +85,7 @@ not_begins_front p q (c ∷ s) h = elim (q c) as (λ v. DoesNotBegin p (take (co
 -- if a text does not begin with '"', '=' and the text give the value that is read without quotes
 is_unquoted_reading : (s : List ℕ) → DoesNotBegin is_quote s → IsReading (61 ∷ s) (unquoted_reading s)
 is_unquoted_reading s h =
-    let gives = plain (front_of in_value s) (front_passes in_value s) (not_begins_front is_quote in_value s h) in
+    let gives = unquoted (front_of in_value s) (front_passes in_value s) (not_begins_front is_quote in_value s h) in
     let begins = begins_from (without_start in_value s) (after_begins in_value s) in
     record { tail = 61 ∷ front_of in_value s; joined = grind (arith, take-append-drop); gives = gives; begins = begins }
 
@@ -131,7 +131,7 @@ ends_of_tail : (p : ℕ → Bool) → p 59 ≡ false → p 61 ≡ false → (tai
     → GivesValue tail rest value → BeginsParameters rest → DoesNotBegin p (tail ++ rest)
 ends_of_tail p e f _ _ _ (nothing {rest}) b = ends_of_rest p e rest b
 ends_of_tail p e f _ _ _ lone_equals b = f
-ends_of_tail p e f _ _ _ (plain text w d) b = f
+ends_of_tail p e f _ _ _ (unquoted text w d) b = f
 ends_of_tail p e f _ _ _ (quoted text junk h w) b = f
 ends_of_tail p e f _ _ _ (unclosed text h) b = f
 

@@ -13,7 +13,7 @@ use Rattle.data_url.specs.CodePoints.{ends_name, is_http_whitespace, is_quotable
 use Rattle.data_url.specs.Mime.{BeginsParameters, DoesNotBegin, Every, GivesValue, IsHead, IsParameter, IsWellformed}
 use Rattle.data_url.specs.Mime.{Item, Items, Parses, Quoted, Record, first_of_each_name, Without, escaped_code_point}
 use Rattle.data_url.specs.Mime.{is_token_text, printed, printed_pair, printed_value, Pair, has_distinct_names, has_name}
-use Rattle.data_url.specs.Mime.{is_lowercase_name, is_quote, kept_pairs, plain, quoted, unless_empty, valid_pairs}
+use Rattle.data_url.specs.Mime.{is_lowercase_name, is_quote, kept_pairs, unquoted, quoted, unless_empty, valid_pairs}
 use Rattle.data_url.specs.{Mime.{after_backslash, nothing_quoted, as_itself}, Steps.Parsing.{DoesNotEnd}}
 use Rattle.data_url.specs.{Steps.Parsing.{HasLowercaseNames, is_escaped}, MimeType.{code_points, pair_of, record_of}}
 use Rattle.data_url.specs.MimeType.{SameTexts, same_pair, same_texts, texts_of_pair}
@@ -230,7 +230,7 @@ plain_value (c ∷ v) rest h =
     let t = every_token (c ∷ v) h in
     subst (λ s. GivesValue (61 ∷ c ∷ v) rest (unless_empty s))
     (end_stays is_http_whitespace (c ∷ v) (tokens_end is_http_whitespace refl (c ∷ v) t))
-    (plain (c ∷ v) (tokens_without is_semicolon refl (c ∷ v) t) (tokens_begin is_quote refl (c ∷ v) t))
+    (unquoted (c ∷ v) (tokens_without is_semicolon refl (c ∷ v) t) (tokens_begin is_quote refl (c ∷ v) t))
 
 -- '=' and a printed value give the value
 gives_value : (v rest : List ℕ) → GivesValue (61 ∷ printed_value v) rest (Some v)

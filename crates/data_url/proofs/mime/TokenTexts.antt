@@ -203,10 +203,10 @@ read_more x c s more (is_open v (inr (q, w, t, e, h))) =
 -- if a text can be read with and without a backslash before it, so can c and the text
 read_first : (c : ℕ) (s : List ℕ) → IsRead s → IsRead (92 ∷ s) → (a b : Bool) → (c == 34) ≡ a → (c == 92) ≡ b
     → IsRead (c ∷ s)
-read_first c s plain escaped true b e f = is_closed [] [] s (ap (λ d. d ∷ s) (eqb-true c 34 e)) nothing_quoted
-read_first c s plain escaped false true e f = rw (eqb-true c 92 f) escaped
-read_first c s plain escaped false false e f =
-    read_more (c ∷ []) c s (λ q v. as_itself c (eqb-false c 34 e) (eqb-false c 92 f)) plain
+read_first c s as_is escaped true b e f = is_closed [] [] s (ap (λ d. d ∷ s) (eqb-true c 34 e)) nothing_quoted
+read_first c s as_is escaped false true e f = rw (eqb-true c 92 f) escaped
+read_first c s as_is escaped false false e f =
+    read_more (c ∷ []) c s (λ q v. as_itself c (eqb-false c 34 e) (eqb-false c 92 f)) as_is
 
 -- each text is read, also after a backslash
 pub is_read : (escaped : Bool) (s : List ℕ) → IsRead (flagged escaped s)
@@ -283,8 +283,8 @@ no_quote {bs} {bytes} {i} u b l h =
 pub ruleset quotes = (cut_quote, quote_at, after_quote, no_quote, IsCharBoundary-after_ascii)
 
 -- a code point other than '"' and '\'
-abbrev plain : ℕ → Bool
-plain c = not (is_escaped c)
+abbrev as_is : ℕ → Bool
+as_is c = not (is_escaped c)
 
 -- the bytes that a text begins with, and that are not marked, stand for themselves
 pub plain_front : (text : List ℕ) (n : ℕ) → n ≤ length text → ((i : ℕ) → slice_index text i < 256)
@@ -292,7 +292,7 @@ pub plain_front : (text : List ℕ) (n : ℕ) → n ≤ length text → ((i : �
 plain_front text zero l f h = refl
 plain_front [] (suc n) l f h = absurd (omega arith)
 plain_front (b ∷ text) (suc n) l f h =
-    let passes = unmarked_passes (may_be_outside UNESCAPED) plain refl b (f 0) (h 0 (omega arith)) in
+    let passes = unmarked_passes (may_be_outside UNESCAPED) as_is refl b (f 0) (h 0 (omega arith)) in
     grind (arith, plain_front text n (omega arith) (λ i. f (suc i)) (λ k m. h (suc k) (omega arith)))
 
 -- the first bytes of a text are copied to a place of a value
@@ -368,11 +368,11 @@ module _ {bs v : List ℕ} (u : IsUtf8 bs) (e : v ≡ unescaped false bs) where
   value_chars = grind (arith, value_encodes, chars-encodes, unescaped_scalars, scalars-chars)
 
 -- so do those before the first '"' or '\'
-plain_quoted : (s : List ℕ) → prefix_len plain s + quoted_len false (drop (prefix_len plain s) s) ≡ quoted_len false s
-plain_quoted [] = refl
-plain_quoted (c ∷ s) = elim (plain c) as (λ v. plain c ≡ v → cond v (1 + prefix_len plain s) 0
-    + quoted_len false (drop (cond v (1 + prefix_len plain s) 0) (c ∷ s)) ≡ quoted_len false (c ∷ s)) [
-      | true ↦ λ e. rw one-add (grind (arith, plain_quoted s))
+as_is_quoted : (s : List ℕ) → prefix_len as_is s + quoted_len false (drop (prefix_len as_is s) s) ≡ quoted_len false s
+as_is_quoted [] = refl
+as_is_quoted (c ∷ s) = elim (as_is c) as (λ v. as_is c ≡ v → cond v (1 + prefix_len as_is s) 0
+    + quoted_len false (drop (cond v (1 + prefix_len as_is s) 0) (c ∷ s)) ≡ quoted_len false (c ∷ s)) [
+      | true ↦ λ e. rw one-add (grind (arith, as_is_quoted s))
       | false ↦ λ e. omega arith
     ] refl
 
@@ -383,15 +383,15 @@ pair_quoted (c ∷ s) n e = let one : n ≡ 1 = omega arith in rw one (omega ari
 
 -- if the closing quote is not before a place, it is not before the first '"' or '\' from there on
 pub quoting_from : (bytes : List ℕ) (from m place : ℕ) → from ≤ length bytes
-    → from + quoted_len false (drop from bytes) ≡ quoted_len false bytes → m ≡ prefix_len plain (drop from bytes)
+    → from + quoted_len false (drop from bytes) ≡ quoted_len false bytes → m ≡ prefix_len as_is (drop from bytes)
     → place ≡ from + m → Quoting bytes place
 quoting_from bytes from m place l h f e =
-    grind (arith, prefix_len-le-length, length-drop, prefix_len_stops, get_or-drop, plain_quoted, drop-drop, not-false)
+    grind (arith, prefix_len-le-length, length-drop, prefix_len_stops, get_or-drop, as_is_quoted, drop-drop, not-false)
 
 -- after a '\' and the byte that follows it
 pub quoting_next : (bytes : List ℕ) (place from m : ℕ) → Quoting bytes place → place < length bytes
     → slice_index bytes place ≢ 34 → from ≡ min (length bytes) (place + 2)
-    → m ≡ prefix_len plain (take (length bytes - from) (drop from bytes)) → Quoting bytes (from + m)
+    → m ≡ prefix_len as_is (take (length bytes - from) (drop from bytes)) → Quoting bytes (from + m)
 quoting_next bytes place from m h l n e f =
     let all : take (length bytes - from) (drop from bytes) ≡ drop from bytes =
     take_all (length bytes - from) (drop from bytes) (omega (arith, length-drop from bytes)) in
@@ -407,4 +407,4 @@ quoting_next bytes place from m h l n e f =
       ap (quoted_len false) front,
       pair_quoted more k refl,
       ap (quoted_len false) on,
-    )) (f ∙ ap (prefix_len plain) all) refl
+    )) (f ∙ ap (prefix_len as_is) all) refl

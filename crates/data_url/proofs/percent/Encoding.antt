@@ -317,7 +317,7 @@ kept_front p class_table s x m n as_is bytes l unmarked front few = kept_whole p
     rw same (as_is (get_or s k 0) (bytes k) (rw read at (unmarked k (omega (arith, w, few))))))
 
 -- the byte is written as it is in a path, and is none of '#', ',' and '?'
-pub record Plain (b : ℕ) : Type 0 where
+pub record StaysUnencoded (b : ℕ) : Type 0 where
   pub written_is : byte_encoding in_path_set b ≡ b ∷ []
   pub no_hash : (b == 35) ≡ false
   pub no_comma : (b == 44) ≡ false

@@ -14,7 +14,8 @@ use Rattle.std.specs.List.{list_all, prefix_len, starts_with}
 use Rattle.data_url.specs.{Mime.{Every}, Steps.Split.{HasNoScheme, IsSchemeAndRest, IsHeaderAndTail, in_header}}
 use Rattle.data_url.specs.{Steps.{Split.{is_unencoded_path}, Header.{header_text}}, Url.{without_tabs_and_newlines}}
 use Rattle.data_url.specs.Url.{is_tab_or_newline, after, front}
-use Rattle.data_url.proofs.{percent.Encoding.{kept_whole, ascii_all, Plain}, texts.Bytes.{before_at, after_none}}
+use Rattle.data_url.proofs.percent.Encoding.{kept_whole, ascii_all, StaysUnencoded}
+use Rattle.data_url.proofs.{texts.Bytes.{before_at, after_none}}
 use Rattle.data_url.proofs.texts.Bytes.{after_nil, after_other, after-dropped_none, without_tabs_and_newlines-append}
 use Rattle.data_url.proofs.texts.Bytes.{dropped_around, dropped_keeps, dropped_nil, dropped_passes, before_all}
 use Rattle.data_url.proofs.texts.CodePoints.{front_further, front_passes}
@@ -150,7 +151,7 @@ pub plain_before : (s items header : List ℕ) (n k : ℕ) → items ≡ s → n
     → header_text (without_tabs_and_newlines header) ≡ header
 unfolding header_text
 plain_before s items header n k e f h is same =
-    let plain : (k : ℕ) → k < n → Plain (get_or s k 0) = λ k l. grind (arith, prefix_len_passes) in
+    let plain : (k : ℕ) → k < n → StaysUnencoded (get_or s k 0) = λ k l. grind (arith, prefix_len_passes) in
     grind (arith, after-dropped_none, after_none, before_all, kept_whole, length-take, get_or-take)
 
 -- if the ',' follows later, the header has another byte

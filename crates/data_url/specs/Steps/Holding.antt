@@ -105,9 +105,9 @@ pub record FeedsFront {F E : Type 0} (step : F → List ℕ → Result (Unit {0}
   pub feeds : Feeds step d (take place tail) r d'
 
 -- feeding d a tail up to its first '#' or '%' returns the place of that byte, or the length of the tail, or an error
-abbrev pub FeedsUnescaped : {F E : Type 0} → (F → List ℕ → Result (Unit {0}) E → F → Type 0)
+abbrev pub FeedsToEscapeOrEnd : {F E : Type 0} → (F → List ℕ → Result (Unit {0}) E → F → Type 0)
     → State F → List ℕ → Result ℕ (DecodeError E) → State F → Type 0
-FeedsUnescaped step d tail r d' = MatchResult r
+FeedsToEscapeOrEnd step d tail r d' = MatchResult r
     (λ place. FeedsFront step d tail place (Ok tt) d'
     × (place < length tail → is_no_hash_or_percent (slice_index tail place) ≡ false))
     (λ x. (place : ℕ) × FeedsFront step d tail place (Err x) d')

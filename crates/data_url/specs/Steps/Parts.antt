@@ -90,10 +90,11 @@ pub record Rests (flag : Bool) (s : LeftOver) (tail : List ℕ) (Could Left : Ty
   pub some_left : Left
   pub after_is : after number_sign tail ≡ after number_sign (drop place tail)
   pub rest_is : body_after flag s tail ≡ prepend bytes (body_after flag s' (drop place tail))
-  pub plain : flag ≡ false → (s'.pending ≡ 0) × (s'.padding ≡ 0)
+  pub nothing_left : flag ≡ false → (s'.pending ≡ 0) × (s'.padding ≡ 0)
 
 -- where decoding stopped after these bytes, or the kind of the fault
-abbrev pub LeavesAt : Bool → LeftOver → List ℕ → Type 0 → Type 0 → List ℕ → LeftOver → Result Stop Kind → Type 0
+abbrev pub LeavesAt : Bool → LeftOver → List ℕ → Type 0 → Type 0 → List ℕ → LeftOver
+    → Result Stop Kind → Type 0
 LeavesAt flag s tail Could Left bytes s' (Ok (Paused place)) = Rests flag s tail Could Left bytes place s'
 LeavesAt flag s tail Could Left bytes s' (Ok (Ended place)) =
     (body_after flag s tail ≡ Good bytes) × IsBodyEnd tail place
@@ -125,5 +126,5 @@ pub record WritesWithin (flag : Bool) (s : LeftOver) (tail before after : List �
     (r : Result Stop Kind) : Type 0 where
   pub bytes : List ℕ
   pub wrote : WritesFront bytes before after len
-  pub stops : LeavesAt flag s tail (4 ≤ length before) (HasNoRoom flag s.pending (length tail) (length before)) bytes
-      s' r
+  pub stops : LeavesAt flag s tail (4 ≤ length before)
+      (HasNoRoom flag s.pending (length tail) (length before)) bytes s' r

@@ -35,7 +35,7 @@ where
 {
     ghost use Rattle.std.specs.Fn.{CalledAt};
     ghost use Rattle.data_url.specs.Decoder.{Feeds, Finishes, start, state_of};
-    ghost use Rattle.data_url.specs.Steps.Holding.{CallsOnce, FeedsUnescaped, Flushes, ReadsStart};
+    ghost use Rattle.data_url.specs.Steps.Holding.{CallsOnce, FeedsToEscapeOrEnd, Flushes, ReadsStart};
     ghost use Rattle.data_url.specs.Steps.Holding.{ReadsUntilFault};
     ghost use Rattle.data_url.specs.Steps.Parts.{HoldsLeft, IsResumed};
 
@@ -287,12 +287,12 @@ where
     /// Decodes a part of the tail of a data: URL up to its first `#` or `%`, as `feed` does. Returns the place of that
     /// byte, or the length of the part. An error is that of `feed` with bytes before that place.
     #[inline(always)]
-    pub(crate) fn feed_unescaped(&mut self, part: &[u8]) -> Result<usize, DecodeError<E>>
+    pub(crate) fn feed_to_escape_or_end(&mut self, part: &[u8]) -> Result<usize, DecodeError<E>>
         requires few { length part.now ≤ 16384 }
         requires callable { F.IsAlwaysCallable (state_of self.old).closure }
         requires going { (state_of self.old).failed ≡ false }
         ensures callable { F.IsAlwaysCallable (state_of self.new).closure }
-        ensures fed { FeedsUnescaped (CalledAt F.FnMut) (state_of self.old) part.now result
+        ensures fed { FeedsToEscapeOrEnd (CalledAt F.FnMut) (state_of self.old) part.now result
             (state_of self.new) }
     {
         let (place, fault) = self.feed_until_fault(part)?;

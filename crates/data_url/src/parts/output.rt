@@ -52,7 +52,10 @@ pub(super) fn fitting_len(pending: usize, text: &[u8], output: &[u8]) -> usize
 }
 
 /// Decodes the next bytes of a body that is not base64 into an output.
-fn write_plain(tail: &[u8], output: &mut [u8]) -> (usize, Result<Stop, InvalidBase64Details>)
+fn write_percent_encoded(
+    tail: &[u8],
+    output: &mut [u8],
+) -> (usize, Result<Stop, InvalidBase64Details>)
     ensures { (s : LeftOver) → (s.pending ≡ 0) × (s.padding ≡ 0) → WritesWithin false s tail.now
         output.old output.new result.0 s result.1 }
 {
@@ -114,5 +117,5 @@ pub(super) fn write_body(
     if base64 {
         return write_base64(left_over, tail, output);
     }
-    write_plain(tail, output)
+    write_percent_encoded(tail, output)
 }

@@ -3,7 +3,7 @@ use Rattle.std.proofs.{Common.{ap, get_or, inl, inr}, lemmas.Bool.{ne_eqb}}
 use Rattle.data_url.specs.{Decoder.{left_over, state_of}, Steps.Window.{is_no_hash_or_percent}}
 use Rattle.data_url.proofs.forgiving_base64.Holding.{reads_fault, reads_front, reads_unescaped, unescaped_after}
 use Rattle.data_url.proofs.forgiving_base64.Holding.{unescaped_more}
-use Rattle.data_url.proofs.forgiving_base64.decode.Decoder.feed_unescaped.Goals as goal
+use Rattle.data_url.proofs.forgiving_base64.decode.Decoder.feed_to_escape_or_end.Goals as goal
 
 pub returns-in_err-place-clause-fed : goal.returns-in_err-place-clause-fed
 returns-in_err-place-clause-fed g c =
