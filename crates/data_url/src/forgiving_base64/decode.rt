@@ -182,26 +182,22 @@ where
         Ok(read)
     }
 
-    /// Calls the closure with the bytes of the blocks that a text begins with. If fewer than 64 bytes follow, then
-    /// reads the symbols that follow, calls the closure with the bytes of their groups, and skips the white space after
-    /// them. Returns how many bytes of the text were read.
+    /// Calls the closure with the bytes of the groups that the symbols at the start of a text of fewer than 64 bytes
+    /// complete, and skips the white space after these symbols. Returns how many bytes of the text were read: none of a
+    /// longer text.
     #[inline(always)]
-    fn read_start(&mut self, text: &[u8]) -> Result<usize, DecodeError<E>>
+    fn read_short(&mut self, text: &[u8]) -> Result<usize, DecodeError<E>>
+        requires some { 1 ≤ length text.now }
         requires callable { F.IsAlwaysCallable (state_of self.old).closure }
         requires going { (state_of self.old).failed ≡ false }
         ensures callable { F.IsAlwaysCallable (state_of self.new).closure }
         ensures read { ReadsStart (CalledAt F.FnMut) (state_of self.old) text.now result
             (state_of self.new) }
     {
-        let taken = self.read_blocks(text)?;
-        if text.len() - taken >= BLOCK || taken == text.len() {
-            return Ok(taken);
+        if text.len() >= BLOCK || !is_symbol(text[0]) || self.state.padding > 0 {
+            return Ok(0);
         }
-        if !is_symbol(text[taken]) || self.state.padding > 0 {
-            return Ok(taken);
-        }
-        let more = self.read_front(&text[taken..])?;
-        let read = taken + more;
+        let read = self.read_front(text)?;
         if read == text.len() {
             return Ok(read);
         }
@@ -253,7 +249,12 @@ where
         ensures read { ReadsUntilFault (CalledAt F.FnMut) (state_of self.old) text.now result
             (state_of self.new) }
     {
-        let at = self.read_start(text)?;
+        let taken = self.read_blocks(text)?;
+        if taken == text.len() {
+            return Ok((taken, None));
+        }
+        let read = self.read_short(&text[taken..])?;
+        let at = taken + read;
         if at == text.len() {
             return Ok((at, None));
         }
