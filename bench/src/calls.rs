@@ -25,26 +25,26 @@ impl Buffer<'_> {
     }
 }
 
-/// What a closure adds up that keeps none of its bytes: how many there are, and the first byte of each piece.
+/// What a closure adds up that keeps none of its bytes: how many there are, and each twelfth of a piece.
 #[derive(Default)]
 struct Sum {
     len: usize,
-    first_bytes: u8,
+    some_bytes: u8,
 }
 
 impl Sum {
     #[inline(always)]
     fn add(&mut self, piece: &[u8]) -> Result<(), ()> {
         self.len = self.len.wrapping_add(piece.len());
-        if let Some(byte) = piece.first() {
-            self.first_bytes = self.first_bytes.wrapping_add(*byte);
+        for twelve in piece.chunks(12) {
+            self.some_bytes = self.some_bytes.wrapping_add(twelve[0]);
         }
         Ok(())
     }
 
     fn show(self, out: &mut [u8]) -> usize {
         if let Some(byte) = out.first_mut() {
-            *byte = self.first_bytes;
+            *byte = self.some_bytes;
         }
         self.len
     }
