@@ -322,10 +322,18 @@ pub record Unescaping (bytes value : List ℕ) (at len : ℕ) : Type 0 where
   pub size : length value ≡ length bytes
   pub value_is : take len value ++ unescaped false (drop at bytes) ≡ unescaped false bytes
 
--- at the end, the bytes are the value of the text
+-- one byte stands for itself
+one_stays : (s : List ℕ) → length s ≤ 1 → unescaped false s ≡ s
+one_stays [] l = refl
+one_stays (b ∷ []) l = grind arith
+one_stays (b ∷ c ∷ s) l = absurd (omega (arith, l))
+
+-- at the end, the bytes and the last one, if there is one, are the value of the text
 pub unescapes_all : {bytes value bs : List ℕ} {at len : ℕ} (v : List ℕ) → Unescaping bytes value at len
-    → length bytes ≤ at → v ≡ take len value → bytes ≡ bs → v ≡ unescaped false bs
-unescapes_all {bytes} {value} {bs} {at} {len} v h l e f = grind (arith, drop_of_length-le, append-nil)
+    → length bytes ≤ at + 1 → v ≡ take len value ++ drop at bytes → bytes ≡ bs → v ≡ unescaped false bs
+unescapes_all {bytes} {value} {bs} {at} {len} v h l e f =
+    let last = one_stays (drop at bytes) (omega (arith, l, length-drop at bytes)) in
+    e ∙ ap (λ s. take len value ++ s) (sym last) ∙ h.value_is ∙ ap (unescaped false) f
 
 -- bytes that are not ASCII stand for themselves
 others_stay : (bs r : List ℕ) → Every (λ b. nat_le 128 b) bs → unescaped false (bs ++ r) ≡ bs ++ unescaped false r

@@ -68,28 +68,29 @@ fn unescaped(alloc: Global, quoted: &str) -> Result<String, AllocError>
     let mut value = vec![in alloc; 0; bytes.len()]?;
     let mut at = copy_rows(bytes, &mut value, 0);
     let mut len = at;
-    while at < bytes.len() {
+    while at + 1 < bytes.len() {
         let (taken, copied) = copy_next(bytes, at, &mut value, len);
         at += taken;
         len += copied;
     }
     value.truncate(len);
+    value.extend_from_slice(&bytes[at..])?;
     Ok(unsafe { String::from_utf8_unchecked(value) })
 }
 
-/// Copies the byte at a place. If it is a `\` before another byte, copies that one instead, and the rows after it.
-/// Returns how many bytes of the text this takes, and how many are copied. The two cases are two branches: the
-/// processor guesses which one comes, and does not wait until the byte is loaded.
+/// Copies the byte at a place, after which another one follows. If it is a `\`, copies that other one instead, and the
+/// rows after it. Returns how many bytes of the text this takes, and how many are copied. The two cases are two
+/// branches: the processor guesses which one comes, and does not wait until the byte is loaded.
 #[inline(always)]
 fn copy_next(bytes: &[u8], at: usize, value: &mut [u8], len: usize) -> (usize, usize)
-    requires within { at < length bytes.now }
+    requires within { at + 1 < length bytes.now }
     requires room { len + (length bytes.now - at) ≤ length value.old }
     ensures sizes { (0 < result.0) × (result.1 ≤ result.0) × (at + result.0 ≤ length bytes.now) }
     ensures value { take (len + result.1) value.new
         ++ unescaped false (drop (at + result.0) bytes.now)
         ≡ take len value.old ++ unescaped false (drop at bytes.now) }
 {
-    if bytes[at] != b'\\' || at + 1 == bytes.len() {
+    if bytes[at] != b'\\' {
         value[len] = bytes[at];
         return (1, 1);
     }
