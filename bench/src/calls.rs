@@ -8,7 +8,7 @@ use self::library::DataUrl;
 const REFUSED: usize = usize::MAX;
 
 struct Buffer<'a> {
-    room: &'a mut [u8],
+    output: &'a mut [u8],
     len: usize,
 }
 
@@ -16,16 +16,16 @@ impl Buffer<'_> {
     #[inline(always)]
     fn append(&mut self, piece: &[u8]) -> Result<(), ()> {
         let end = self.len.saturating_add(piece.len());
-        if end > self.room.len() {
+        if end > self.output.len() {
             return Err(());
         }
-        self.room[self.len..end].copy_from_slice(piece);
+        self.output[self.len..end].copy_from_slice(piece);
         self.len = end;
         Ok(())
     }
 }
 
-/// What a closure adds up that keeps none of its bytes: how many there are, and each twelfth of a piece.
+/// What a closure adds up that keeps none of its bytes: how many there are, and every twelfth byte of each piece.
 #[derive(Default)]
 struct Sum {
     len: usize,
@@ -68,7 +68,10 @@ pub fn base64_to_vec(input: &[u8], out: &mut [u8]) -> usize {
 }
 
 pub fn base64_feed(input: &[u8], out: &mut [u8]) -> usize {
-    let mut buffer = Buffer { room: out, len: 0 };
+    let mut buffer = Buffer {
+        output: out,
+        len: 0,
+    };
     let mut decoder = Decoder::new(|piece: &[u8]| buffer.append(piece));
     if decoder.feed(input).is_err() || decoder.finish().is_err() {
         return REFUSED;
@@ -109,7 +112,10 @@ pub fn decode(text: &[u8], out: &mut [u8]) -> usize {
     let Ok(url) = DataUrl::process(text_of(text)) else {
         return REFUSED;
     };
-    let mut buffer = Buffer { room: out, len: 0 };
+    let mut buffer = Buffer {
+        output: out,
+        len: 0,
+    };
     match url.decode(|piece: &[u8]| buffer.append(piece)) {
         Ok(_) => buffer.len,
         Err(_) => REFUSED,
@@ -122,11 +128,14 @@ pub fn pieces(text: &[u8], out: &mut [u8]) -> usize {
     let Ok(url) = DataUrl::process(text_of(text)) else {
         return REFUSED;
     };
-    let mut buffer = Buffer { room: out, len: 0 };
+    let mut buffer = Buffer {
+        output: out,
+        len: 0,
+    };
     let mut sum = Sum::default();
     let decoded = url.decode(|piece: &[u8]| {
         if buffer.append(piece).is_err() {
-            buffer.len = buffer.room.len();
+            buffer.len = buffer.output.len();
         }
         sum.add(piece)
     });

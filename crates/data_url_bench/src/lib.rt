@@ -4,7 +4,7 @@
 //! Each export returns how many bytes the function returned, or `REFUSED`, and copies them to `out` as far as they fit
 //! there. A driver that compares passes an `out` with room; one that times passes an empty one, so that nothing is
 //! copied. If the function calls a closure with its bytes, the closure writes them to `out`. In the exports whose names
-//! end with `summed` it keeps none, and adds up how many there are, and each twelfth of a piece.
+//! end with `summed` it keeps none, and adds up how many there are, and every twelfth byte of each piece.
 #![tactic(auto)]
 
 ghost use Rattle.std.specs.Prelude.{◌≡◌, length};
@@ -153,7 +153,7 @@ pub extern "C" fn data_url_decode_to_vec(alloc: Global, text: &[u8], out: &mut [
     }
 }
 
-/// `DataUrl::process`, and the `Pieces` of the text after the first comma, which are added up.
+/// `DataUrl::process`, and the `Pieces` of the text after the first comma. Returns how many bytes they have.
 #[unsafe(no_mangle)]
 pub extern "C" fn data_url_pieces(alloc: Global, text: &[u8], out: &mut [u8]) -> usize
     requires { IsUtf8 text.now }

@@ -1,7 +1,7 @@
 //! What a closure adds up that keeps none of its bytes.
 
-/// How many bytes the pieces of a result have, and the sum of each twelfth of them. The compiler leaves out what makes
-/// bytes that nobody looks at, and twelve bytes are made together.
+/// How many bytes the pieces of a result have, and the sum of every twelfth byte of each piece. The decoder makes
+/// twelve bytes at a time, and the compiler may leave out those of which none is used.
 #[derive(Drop)]
 pub(crate) struct Sum {
     len: usize,

@@ -8,7 +8,7 @@ use Rattle.data_url.specs.declared.forgiving_base64.InvalidBase64Details.TheVari
 use Rattle.data_url.specs.declared.forgiving_base64.left_over.LeftOver.{LeftOver}
 use Rattle.data_url.specs.declared.parts.body.Body.{Body}
 use Rattle.data_url_c.specs.Answers.{status_of_kind}
-use Rattle.data_url_c.specs.Bodies.{EndsAs, Continues, IsGoodBody, StepsBody, body_left, ended, more}
+use Rattle.data_url_c.specs.Bodies.{ContinuesOrEnds, EndsAs, IsGoodBody, StepsBody, body_left, ended, more}
 use Rattle.data_url_c.specs.Parts.{waiting_text}
 use Rattle.data_url.specs.Parts.{WritesFront}
 use Rattle.data_url_c.specs.Steps.{HoldsLeft, IsBodyOf}
@@ -26,7 +26,7 @@ rest_left {tail} {s} {b} h = cc (h.tail_is, h.base64_is, h.place_is, left_text_i
 
 -- a call with a good state and enough room
 steps : {tail before after : List ℕ} {old new : DataUrlBody} {r : DataUrlStep} → IsGoodBody tail old → 8 ≤ length before
-    → Continues tail old new before after r.len r.status → StepsBody tail old new before after r
+    → ContinuesOrEnds tail old new before after r.len r.status → StepsBody tail old new before after r
 steps good room goes = record {
   bad = λ no. absurd (no good);
   small = λ g l. absurd (omega arith);
@@ -44,9 +44,9 @@ steps_more {tail} {before} {after} {bytes} {old} {new} {b} {c} {r} h room wrote 
     let good : IsGoodBody tail new = record {
       left = left.good;
       within = omega (arith, c.within, ap length same, at);
-      nothing_left = λ z.
+      none_left_over = λ z.
           let off : c.base64 ≡ false = moves.base64_stays ∙ h.base64_is ∙ ap (λ n. not (n == 0)) (sym flag ∙ z) in
-          let none = c.nothing_left off in (left.pending_is ∙ none.0, left.padding_is ∙ none.1);
+          let none = c.none_left_over off in (left.pending_is ∙ none.0, left.padding_is ∙ none.1);
     } in
     let is : IsBodyOf tail new c = record {
       good = good;

@@ -30,7 +30,7 @@ body_left tail s = outcome (flag_of s) (waiting_text s.left ++ plain_body (drop 
 pub record IsGoodBody (tail : List ℕ) (s : DataUrlBody) : Type 0 where
   pub left : is_good_state s.left ≡ true
   pub within : s.from ≤ length tail
-  pub nothing_left : s.is_base64 ≡ 0 → (s.left.pending ≡ 0) × (s.left.padding ≡ 0)
+  pub none_left_over : s.is_base64 ≡ 0 → (s.left.pending ≡ 0) × (s.left.padding ≡ 0)
 
 -- a body that goes on from an index of its tail ends at another one: the tail ends there, or '#'
 -- and the fragment follow
@@ -39,17 +39,17 @@ IsEnd tail from end = MatchOption (after number_sign (drop from tail)) (end ≡ 
     (λ fragment. (end < length tail) × (fragment ≡ drop (end + 1) tail))
 
 -- what a call with a good state does, for each status
-pub data Continues (tail : List ℕ) (old new : DataUrlBody) (before after : List ℕ) (len : ℕ)
+pub data ContinuesOrEnds (tail : List ℕ) (old new : DataUrlBody) (before after : List ℕ) (len : ℕ)
     : ℕ → Type 0 where
   -- bytes were written, and the rest of the body is left
   more : {bytes : List ℕ} → WritesFront bytes before after len → IsGoodBody tail new
       → new.is_base64 ≡ old.is_base64 → old.from < new.from
       → body_left tail old ≡ prepend bytes (body_left tail new)
-      → Continues tail old new before after len 11
+      → ContinuesOrEnds tail old new before after len 11
   -- the body ended, or its base64 has a fault; later calls reject the state
   ended : {status : ℕ} → EndsAs (body_left tail old) before after status len
       → (status ≡ 0 → IsEnd tail old.from new.from) → (IsGoodBody tail new → ⊥)
-      → Continues tail old new before after len status
+      → ContinuesOrEnds tail old new before after len status
 
 -- what a call does: a state that is not good gives status 12, and an output of less than eight
 -- bytes status 5
@@ -59,4 +59,4 @@ pub record StepsBody (tail : List ℕ) (old new : DataUrlBody) (before after : L
       → DoesNothing old new before after × (r.status ≡ 12) × (r.len ≡ 0)
   pub small : IsGoodBody tail old → length before < 8
       → DoesNothing old new before after × (r.status ≡ 5) × (r.len ≡ 0)
-  pub goes : IsGoodBody tail old → 8 ≤ length before → Continues tail old new before after r.len r.status
+  pub goes : IsGoodBody tail old → 8 ≤ length before → ContinuesOrEnds tail old new before after r.len r.status

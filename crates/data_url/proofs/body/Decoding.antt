@@ -346,10 +346,10 @@ unfolding without_whitespace
 space_gone c x t = grind arith
 
 -- a byte that is neither '#' nor '%' is read as it is, unless it is a tab or a newline
-unescaped_one : (c : ℕ) (s : List ℕ) → is_no_hash_or_percent c ≡ true
+no_hash_one : (c : ℕ) (s : List ℕ) → is_no_hash_or_percent c ≡ true
     → (without_whitespace (plain_body (c ∷ s)) ≡ without_whitespace (c ∷ plain_body s))
     × (after number_sign (c ∷ s) ≡ after number_sign s)
-unescaped_one c s h =
+no_hash_one c s h =
     let no : (c == 35) ≡ false = grind arith in
     let other : (c == 37) ≡ false = grind arith in
     let same : without_whitespace (plain_body (c ∷ s)) ≡ without_whitespace (c ∷ plain_body s) =
@@ -364,22 +364,22 @@ unescaped_one c s h =
     (same, after_other 35 c s no)
 
 -- text without '#' and '%' is read as it is, but for tabs and newlines
-unescaped_front : (a b : List ℕ) → list_all is_no_hash_or_percent a ≡ true
+no_hash_front : (a b : List ℕ) → list_all is_no_hash_or_percent a ≡ true
     → (without_whitespace (plain_body (a ++ b)) ≡ without_whitespace (a ++ plain_body b))
     × (after number_sign (a ++ b) ≡ after number_sign b)
-unescaped_front [] b h = (refl, refl)
-unescaped_front (c ∷ a) b h =
+no_hash_front [] b h = (refl, refl)
+no_hash_front (c ∷ a) b h =
     let k = and_parts (is_no_hash_or_percent c) (list_all is_no_hash_or_percent a) h in
-    let more = unescaped_front a b k.1 in
-    let one = unescaped_one c (a ++ b) k.0 in
+    let more = no_hash_front a b k.1 in
+    let one = no_hash_one c (a ++ b) k.0 in
     let same = alike_cons c (plain_body (a ++ b)) (a ++ plain_body b) more.0 in
     (one.0 ∙ same, one.1 ∙ more.1)
 
 -- the fragment of a tail comes after its front
 pub front_fragment : (tail : List ℕ) (at : ℕ) → list_all is_no_hash_or_percent (take at tail) ≡ true
     → after number_sign (drop at tail) ≡ after number_sign tail
-front_fragment tail at unescaped =
-    cc ((unescaped_front (take at tail) (drop at tail) unescaped).1, take-append-drop at tail)
+front_fragment tail at no_hash_or_percent =
+    cc ((no_hash_front (take at tail) (drop at tail) no_hash_or_percent).1, take-append-drop at tail)
 
 -- the bytes are the body of the tail, but for white space
 pub record IsBodyOf (tail bytes : List ℕ) : Type 0 where
@@ -411,8 +411,8 @@ part_byte tail at m n l is =
 -- the front of a tail as it is, and then the body from there on
 pub front_body : (tail : List ℕ) (at : ℕ) → at ≤ length tail → list_all is_no_hash_or_percent (take at tail) ≡ true
     → IsBodyOf tail (take at tail ++ plain_body (drop at tail))
-front_body tail at within unescaped =
-    let front = unescaped_front (take at tail) (drop at tail) unescaped in
+front_body tail at within no_hash_or_percent =
+    let front = no_hash_front (take at tail) (drop at tail) no_hash_or_percent in
     record {
       few = omega (
         arith,
@@ -439,9 +439,9 @@ module _ {F E : Type 0} (step : F → List ℕ → Result (Unit {0}) E → F →
       let joined = in_part tail at m n h.within is in
       record {
         within = omega (arith, k.within, h.within, (part_within tail at m is).1);
-        unescaped = subst (λ t. list_all is_no_hash_or_percent t ≡ true) joined
+        no_hash_or_percent = subst (λ t. list_all is_no_hash_or_percent t ≡ true) joined
             (list_all-append is_no_hash_or_percent (take at tail) (take n part)
-            ∙ ap₂ (λ a b. a && b) k.unescaped h.unescaped);
+            ∙ ap₂ (λ a b. a && b) k.no_hash_or_percent h.no_hash_or_percent);
         feeds = subst (λ t. Feeds step d t r d2) joined (feeds_then step k.feeds h.feeds);
       }
 

@@ -118,7 +118,7 @@ front_whole {step = step} {d = d} {d' = d'} {tail = tail} {part = part} {r = r} 
     ap (take place) is ∙ take-take place (min (length tail) most) tail (omega (arith, size, h.within)) in (
       record {
         within = omega (arith, size, h.within);
-        unescaped = subst (λ t. list_all is_no_hash_or_percent t ≡ true) same h.unescaped;
+        no_hash_or_percent = subst (λ t. list_all is_no_hash_or_percent t ≡ true) same h.no_hash_or_percent;
         feeds = subst (λ t. Feeds step d t r d') same h.feeds;
       },
       omega (arith, size, h.within),
@@ -129,7 +129,7 @@ module _ {F E : Type 0} (step : F → List ℕ → Result (Unit {0}) E → F →
   pub fed_front : {d d' : State F} {tail : List ℕ} {r : Result (Unit {0}) (DecodeError E)} (most place : ℕ)
       → FeedsFront step d tail place r d' → place ≤ most → FedBody step d tail most (plain_body (drop place tail)) r d'
   fed_front {tail = tail} most place h l =
-      let front = front_body tail place h.within h.unescaped in
+      let front = front_body tail place h.within h.no_hash_or_percent in
       let size = length-take-le place tail h.within in
       record {
         fed = take place tail;
@@ -163,7 +163,7 @@ module _ {C F E : Type 0} {outer : C → List ℕ → Result (Unit {0}) (DecodeE
       let t = part.takes in
       let size = length-take-le place tail front.within in
       let all = length-append (take place tail) (joined_pieces t.run) in
-      let body = front_body tail place front.within front.unescaped in
+      let body = front_body tail place front.within front.no_hash_or_percent in
       let whole : take place tail ++ plain_body (drop place tail) ≡ (take place tail ++ joined_pieces t.run) ++
       w'.rest =
       cc (from.rest_is, t.body, append_assoc (take place tail) (joined_pieces t.run) w'.rest) in
@@ -191,7 +191,7 @@ module _ {C F E : Type 0} {outer : C → List ℕ → Result (Unit {0}) (DecodeE
   fed_until {c} {c'} {d} {tail} {place} {most} {w} {x} l front from u =
       let size = length-take-le place tail front.within in
       let all = length-append (take place tail) (joined_pieces u.run) in
-      let body = front_body tail place front.within front.unescaped in
+      let body = front_body tail place front.within front.no_hash_or_percent in
       let whole : take place tail ++ plain_body (drop place tail)
       ≡ (take place tail ++ joined_pieces u.run) ++ u.begins.0 =
       cc (from.rest_is, u.begins.1, append_assoc (take place tail) (joined_pieces u.run) u.begins.0) in

@@ -63,23 +63,23 @@ unmarked seen c h = elim (cases_Bool (eqb c 35)) [
 ]
 
 -- a text without a fault has no '#' and no '%'
-unescaped_byte : (t : List ℕ) (seen : Bool) → fault_byte seen t ≡ None → list_all is_no_hash_or_percent t ≡ true
+no_hash_byte : (t : List ℕ) (seen : Bool) → fault_byte seen t ≡ None → list_all is_no_hash_or_percent t ≡ true
 unfolding fault_byte
-unescaped_byte [] seen h = refl
-unescaped_byte (c ∷ t) seen h =
+no_hash_byte [] seen h = refl
+no_hash_byte (c ∷ t) seen h =
     let k = passed (is_bad seen c) c (fault_byte (seen || is_pad c) t) h in
-    ap (λ x. x && list_all is_no_hash_or_percent t) (unmarked seen c k.0) ∙ unescaped_byte t (seen || is_pad c) k.1
+    ap (λ x. x && list_all is_no_hash_or_percent t) (unmarked seen c k.0) ∙ no_hash_byte t (seen || is_pad c) k.1
 
 -- if the text after u has no fault, it has no '#' and no '%'
-pub unescaped_after : (u t : List ℕ) → first_fault (u ++ t) ≡ None → list_all is_no_hash_or_percent t ≡ true
-unescaped_after u t h =
-    let all = sym (list_all-append is_no_hash_or_percent u t) ∙ unescaped_byte (u ++ t) false (fault_none (u ++ t) h) in
+pub no_hash_after : (u t : List ℕ) → first_fault (u ++ t) ≡ None → list_all is_no_hash_or_percent t ≡ true
+no_hash_after u t h =
+    let all = sym (list_all-append is_no_hash_or_percent u t) ∙ no_hash_byte (u ++ t) false (fault_none (u ++ t) h) in
     (and_parts (list_all is_no_hash_or_percent u) (list_all is_no_hash_or_percent t) all).1
 
 -- one more byte that is neither '#' nor '%'
-pub unescaped_more : (t : List ℕ) (at : ℕ) → at < length t → list_all is_no_hash_or_percent (take at t) ≡ true
+pub no_hash_more : (t : List ℕ) (at : ℕ) → at < length t → list_all is_no_hash_or_percent (take at t) ≡ true
     → is_no_hash_or_percent (get_or t at 0) ≡ true → list_all is_no_hash_or_percent (take (at + 1) t) ≡ true
-unescaped_more t at l h k = list_all_more is_no_hash_or_percent t at 0 l
+no_hash_more t at l h k = list_all_more is_no_hash_or_percent t at 0 l
     ∙ ap (λ x. x && is_no_hash_or_percent (get_or t at 0)) h ∙ k
 
 -- Text that is read without a call
@@ -335,14 +335,14 @@ module _ {F E : Type 0} (step : F → List ℕ → Result (Unit {0}) E → F →
       subst P more (feeds_then step (reads_feeds r.reads) (refuses_feeds r.ends.1 same))
 
   -- the text of a tail that was read has no '#' and no '%'
-  pub reads_unescaped : {d d' : State F} {t held : List ℕ} → ReadsHolding step d t held d'
+  pub reads_no_hash : {d d' : State F} {t held : List ℕ} → ReadsHolding step d t held d'
       → list_all is_no_hash_or_percent t ≡ true
-  reads_unescaped {d} {t = t} r = unescaped_after (left_over d) t r.no_fault
+  reads_no_hash {d} {t = t} r = no_hash_after (left_over d) t r.no_fault
 
   -- the front of a tail was read
   pub reads_front : {d d' : State F} {tail : List ℕ} {place : ℕ} → place ≤ length tail
       → ReadsHolding step d (take place tail) [] d' → FeedsFront step d tail place (Ok tt) d'
-  reads_front l r = record { within = l; unescaped = reads_unescaped r; feeds = reads_feeds r }
+  reads_front l r = record { within = l; no_hash_or_percent = reads_no_hash r; feeds = reads_feeds r }
 
   -- an error of the closure ends the feeding of a text that has no fault up to an index
   pub ends_within : {d d1 d2 : State F} {s held : List ℕ} {x : DecodeError E} (at : ℕ) → at ≤ length s

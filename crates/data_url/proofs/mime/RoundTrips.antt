@@ -223,10 +223,10 @@ quoted_escaped (c ∷ v) = cond_both ((c == 34) || (c == 92)) (92 ∷ c ∷ []) 
     (c == 34) (c == 92) e in as_itself c (eqb-false c 34 p.0) (eqb-false c 92 p.1) (quoted_escaped v))
 
 -- '=' and a token text give the token text as value
-plain_value : (v rest : List ℕ) → is_token_text v ≡ true → GivesValue (61 ∷ v) rest (Some v)
+unquoted_value : (v rest : List ℕ) → is_token_text v ≡ true → GivesValue (61 ∷ v) rest (Some v)
 unfolding is_token
-plain_value [] rest h = absurd (false≢true h)
-plain_value (c ∷ v) rest h =
+unquoted_value [] rest h = absurd (false≢true h)
+unquoted_value (c ∷ v) rest h =
     let t = every_token (c ∷ v) h in
     subst (λ s. GivesValue (61 ∷ c ∷ v) rest (unless_empty s))
     (end_stays is_http_whitespace (c ∷ v) (tokens_end is_http_whitespace refl (c ∷ v) t))
@@ -235,8 +235,8 @@ plain_value (c ∷ v) rest h =
 -- '=' and a printed value give the value
 gives_value : (v rest : List ℕ) → GivesValue (61 ∷ printed_value v) rest (Some v)
 gives_value v rest = cond_both (is_token_text v) v (34 ∷ (flat_map escaped_code_point v ++ (34 ∷ [])))
-    (λ t. GivesValue (61 ∷ t) rest (Some v)) (λ e. plain_value v rest e) (λ e. quoted (flat_map escaped_code_point v) []
-    (quoted_escaped v) tt)
+    (λ t. GivesValue (61 ∷ t) rest (Some v)) (λ e. unquoted_value v rest e)
+    (λ e. quoted (flat_map escaped_code_point v) [] (quoted_escaped v) tt)
 
 -- '=' and a printed value do not end with HTTP whitespace
 value_not_end : (v : List ℕ) → DoesNotEnd is_http_whitespace (61 ∷ printed_value v)

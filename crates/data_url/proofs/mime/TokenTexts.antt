@@ -287,13 +287,13 @@ abbrev as_is : ℕ → Bool
 as_is c = not (is_escaped c)
 
 -- the bytes that a text begins with, and that are not marked, stand for themselves
-pub plain_front : (text : List ℕ) (n : ℕ) → n ≤ length text → ((i : ℕ) → slice_index text i < 256)
+pub as_is_front : (text : List ℕ) (n : ℕ) → n ≤ length text → ((i : ℕ) → slice_index text i < 256)
     → AreOf UNESCAPED text n → unescaped false text ≡ take n text ++ unescaped false (drop n text)
-plain_front text zero l f h = refl
-plain_front [] (suc n) l f h = absurd (omega arith)
-plain_front (b ∷ text) (suc n) l f h =
+as_is_front text zero l f h = refl
+as_is_front [] (suc n) l f h = absurd (omega arith)
+as_is_front (b ∷ text) (suc n) l f h =
     let passes = unmarked_passes (may_be_outside UNESCAPED) as_is refl b (f 0) (h 0 (omega arith)) in
-    grind (arith, plain_front text n (omega arith) (λ i. f (suc i)) (λ k m. h (suc k) (omega arith)))
+    grind (arith, as_is_front text n (omega arith) (λ i. f (suc i)) (λ k m. h (suc k) (omega arith)))
 
 -- the first bytes of a text are copied to a place of a value
 pub record IsCopied (text before value : List ℕ) (len n : ℕ) : Type 0 where
@@ -322,13 +322,13 @@ pub record Unescaping (bytes value : List ℕ) (at len : ℕ) : Type 0 where
   pub size : length value ≡ length bytes
   pub value_is : take len value ++ unescaped false (drop at bytes) ≡ unescaped false bytes
 
--- one byte stands for itself
+-- a text of at most one byte stands for itself
 one_stays : (s : List ℕ) → length s ≤ 1 → unescaped false s ≡ s
 one_stays [] l = refl
 one_stays (b ∷ []) l = grind arith
 one_stays (b ∷ c ∷ s) l = absurd (omega (arith, l))
 
--- at the end, the bytes and the last one, if there is one, are the value of the text
+-- if at most one byte is not read yet, what was written and then that byte are the value of the text
 pub unescapes_all : {bytes value bs : List ℕ} {at len : ℕ} (v : List ℕ) → Unescaping bytes value at len
     → length bytes ≤ at + 1 → v ≡ take len value ++ drop at bytes → bytes ≡ bs → v ≡ unescaped false bs
 unescapes_all {bytes} {value} {bs} {at} {len} v h l e f =

@@ -65,7 +65,7 @@ leaves_part s s' d d' tail most bytes (Ok (Paused place)) e e' k = record {
   some_left = k.some_left;
   after_is = k.after_is;
   rest_is = rw (e, e') at k.rest_is;
-  nothing_left = λ e. absurd (cc);
+  none_left_over = λ e. absurd (cc);
 }
 leaves_part s s' d d' tail most bytes (Ok (Ended place)) e e' k = (rw e at k.0, k.1)
 leaves_part s s' d d' tail most bytes (Err (InvalidBase64 kind)) e e' k = rw e at k
@@ -124,7 +124,7 @@ leaves_at s s' tail most room bytes (Paused place) few fitting k = record {
   some_left = fitting_left s.pending (length tail) room most fitting k.some_left;
   after_is = k.after_is;
   rest_is = k.rest_is;
-  nothing_left = k.nothing_left;
+  none_left_over = k.none_left_over;
 }
 leaves_at s s' tail most room bytes (Ended place) few fitting k = k
 

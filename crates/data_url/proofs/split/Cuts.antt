@@ -128,7 +128,7 @@ at_hash s n f h = cc (cut_at s n f.within, before_at 35 (take n s) (drop (n + 1)
 
 module _ (s items : List ℕ) (n k : ℕ) (e : items ≡ s) (f : n ≡ prefix_len is_unencoded_path items)
     (g : k ≡ prefix_len in_header (take (length items - n) (drop n items))) where
-  -- the first ',' or '#' of the text, if there is one, is k bytes after the n plain bytes at the front
+  -- the first ',' or '#' of the text, if there is one, is k bytes after the n unencoded bytes at the front
   end_at : n + k ≡ prefix_len in_header s
   end_at = grind (arith, take_rest, front_further, prefix_len_passes, prefix_len-le-length)
 
@@ -145,13 +145,13 @@ module _ (s items : List ℕ) (n k : ℕ) (e : items ≡ s) (f : n ≡ prefix_le
       let lacks = no_end (take (prefix_len in_header s) s) (front_passes in_header s) in
       grind (arith, end_at, take_all, before_all)
 
--- if the ',' follows directly after the plain bytes at the front, the header is serialised as it is
-pub plain_before : (s items header : List ℕ) (n k : ℕ) → items ≡ s → n ≡ prefix_len is_unencoded_path items
+-- if the ',' follows directly after the unencoded bytes at the front, the header is serialised as it is
+pub unencoded_before : (s items header : List ℕ) (n k : ℕ) → items ≡ s → n ≡ prefix_len is_unencoded_path items
     → ((i : ℕ) → get_or s i 0 < 256) → header ≡ take (n + k) s → n + k ≡ n
     → header_text (without_tabs_and_newlines header) ≡ header
 unfolding header_text
-plain_before s items header n k e f h is same =
-    let plain : (k : ℕ) → k < n → StaysUnencoded (get_or s k 0) = λ k l. grind (arith, prefix_len_passes) in
+unencoded_before s items header n k e f h is same =
+    let unencoded : (k : ℕ) → k < n → StaysUnencoded (get_or s k 0) = λ k l. grind (arith, prefix_len_passes) in
     grind (arith, after-dropped_none, after_none, before_all, kept_whole, length-take, get_or-take)
 
 -- if the ',' follows later, the header has another byte
@@ -173,4 +173,4 @@ pub ruleset spelling = (steps, differs, ends_early, dropped_nil, take_all, IsCha
 -- the lemmas for `split_at_comma`
 pub ruleset cuts_at = (no_header_end, at_hash, header_end_at, at_comma)
 
-pub ruleset commas = (cuts_at, IsCharBoundary-after_ascii, eqb-true, plain_before, other_before)
+pub ruleset commas = (cuts_at, IsCharBoundary-after_ascii, eqb-true, unencoded_before, other_before)

@@ -101,7 +101,7 @@ ReadsUntilFault step d text r d' =
 pub record FeedsFront {F E : Type 0} (step : F → List ℕ → Result (Unit {0}) E → F → Type 0) (d : State F)
     (tail : List ℕ) (place : ℕ) (r : Result (Unit {0}) (DecodeError E)) (d' : State F) : Type 0 where
   pub within : place ≤ length tail
-  pub unescaped : list_all is_no_hash_or_percent (take place tail) ≡ true
+  pub no_hash_or_percent : list_all is_no_hash_or_percent (take place tail) ≡ true
   pub feeds : Feeds step d (take place tail) r d'
 
 -- feeding d a tail up to its first '#' or '%' returns the place of that byte, or the length of the tail, or an error

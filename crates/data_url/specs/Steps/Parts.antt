@@ -90,7 +90,7 @@ pub record Rests (flag : Bool) (s : LeftOver) (tail : List ℕ) (Could Left : Ty
   pub some_left : Left
   pub after_is : after number_sign tail ≡ after number_sign (drop place tail)
   pub rest_is : body_after flag s tail ≡ prepend bytes (body_after flag s' (drop place tail))
-  pub nothing_left : flag ≡ false → (s'.pending ≡ 0) × (s'.padding ≡ 0)
+  pub none_left_over : flag ≡ false → (s'.pending ≡ 0) × (s'.padding ≡ 0)
 
 -- where decoding stopped after these bytes, or the kind of the fault
 abbrev pub LeavesAt : Bool → LeftOver → List ℕ → Type 0 → Type 0 → List ℕ → LeftOver

@@ -182,9 +182,9 @@ where
         Ok(read)
     }
 
-    /// Calls the closure with the bytes of the groups that the symbols at the start of a text of fewer than 64 bytes
-    /// complete, and skips the white space after these symbols. Returns how many bytes of the text were read: none of a
-    /// longer text.
+    /// Reads the symbols at the start of a text of fewer than 64 bytes, and the white space after them. Calls the
+    /// closure with the bytes of the groups that the symbols complete. Returns how many bytes of the text were read:
+    /// none if the text is longer or begins with another byte, or if padding came before it.
     #[inline(always)]
     fn read_short(&mut self, text: &[u8]) -> Result<usize, DecodeError<E>>
         requires some { 1 ≤ length text.now }

@@ -60,7 +60,7 @@ impl<'a> Head<'a> {
     }
 }
 
-/// The parts of a MIME type, if the text is one.
+/// The head of a MIME type, if the text is one.
 #[inline(always)]
 pub(crate) fn read_head(text: &str) -> Option<Head<'_>>
     ensures { MatchOption result (HasNoHead (chars text.now))
@@ -70,7 +70,7 @@ pub(crate) fn read_head(text: &str) -> Option<Head<'_>>
     read_trimmed_head(without_trailing_whitespace(without_leading_whitespace(text)))
 }
 
-/// The parts of a MIME type, if the text is one. The text has no HTTP whitespace at its ends.
+/// The head of a MIME type, if the text is one. The text has no HTTP whitespace at its ends.
 #[inline(always)]
 #[tactic(auto, using(crate::proofs::mime::Parsing::heads))]
 pub(crate) fn read_trimmed_head(text: &str) -> Option<Head<'_>>
@@ -92,7 +92,7 @@ pub(crate) fn read_trimmed_head(text: &str) -> Option<Head<'_>>
     })
 }
 
-/// Returns the parts of the MIME type `text/plain` with a text after the subtype. That text is empty or begins with
+/// Returns the head of the MIME type `text/plain` with a text after the subtype. That text is empty or begins with
 /// `;`, and has no HTTP whitespace at its ends.
 #[tactic(auto, using(crate::proofs::mime::Parsing::text_plain_head_is))]
 pub(crate) fn text_plain_head(parameters: &str) -> Head<'_>

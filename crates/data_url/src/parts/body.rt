@@ -17,7 +17,7 @@ pub struct Body<'a> {
     place: usize,
     left_over: LeftOver,
     ghost within: { place ≤ length tail.now },
-    ghost nothing_left: { base64 ≡ false → (left_over.pending ≡ 0) × (left_over.padding ≡ 0) },
+    ghost none_left_over: { base64 ≡ false → (left_over.pending ≡ 0) × (left_over.padding ≡ 0) },
 }
 
 /// What a call for the next part of a body returns.

@@ -52,7 +52,7 @@ pub(super) fn fitting_len(pending: usize, text: &[u8], output: &[u8]) -> usize
 }
 
 /// Decodes the next bytes of a body that is not base64 into an output.
-fn write_percent_encoded(
+fn write_percent_decoded(
     tail: &[u8],
     output: &mut [u8],
 ) -> (usize, Result<Stop, InvalidBase64Details>)
@@ -117,5 +117,5 @@ pub(super) fn write_body(
     if base64 {
         return write_base64(left_over, tail, output);
     }
-    write_percent_encoded(tail, output)
+    write_percent_decoded(tail, output)
 }

@@ -23,7 +23,8 @@ pub from_place-walk-requires-clause-no_hash : goal.from_place-walk-requires-clau
 from_place-walk-requires-clause-no_hash g c =
     let part = ap (λ n. take n c.args.tail.now) c.min.ensures in
     let place = c.in_ok-place.place in
-    front_fragment c.args.tail.now place (front_whole c.args.most place part c.in_ok-place.ensures.fed.0).0.unescaped
+    let front = front_whole c.args.most place part c.in_ok-place.ensures.fed.0 in
+    front_fragment c.args.tail.now place front.0.no_hash_or_percent
 
 pub take_within-requires-clause-callable : goal.take_within-requires-clause-callable
 take_within-requires-clause-callable g c = λ run h ran n bytes.

@@ -1,7 +1,7 @@
 use Rattle.std.proofs.Common.{arith, ap, ◌∙◌, not}
 use Rattle.data_url.specs.{Steps.Classes.{may_be_outside}, declared.classes.TheConstants.{UNESCAPED}}
 use Rattle.data_url.proofs.classes.{Lookups.{all_in_rows}, Rows.{one_row_more, row_front}}
-use Rattle.data_url.proofs.mime.TokenTexts.{copies_on, plain_front}
+use Rattle.data_url.proofs.mime.TokenTexts.{copies_on, as_is_front}
 use lib.Count.{count_trailing_zeros}
 use Rattle.data_url.proofs.mime.values.copy_rows.Goals as goal
 
@@ -15,7 +15,7 @@ returns-then-not-none_outside c =
     record {
       within = h.1.within;
       copied = copies_on c.put.new.bytes _ i (omega arith) c.row-row.ensures c.put.ensures h.0;
-      verbatim = plain_front c.args.text.now _ h.1.within (λ k. omega (arith, c.type_inv.text k)) h.1.front;
+      verbatim = as_is_front c.args.text.now _ h.1.within (λ k. omega (arith, c.type_inv.text k)) h.1.front;
     }
 
 pub loop-copied-preserved : goal.loop-copied-preserved
@@ -30,5 +30,5 @@ loop-copied-preserved c =
     }
 
 pub returns-clause-verbatim : goal.returns-clause-verbatim
-returns-clause-verbatim c = plain_front c.args.text.now _ c.loop-copied.invariant.front.within
+returns-clause-verbatim c = as_is_front c.args.text.now _ c.loop-copied.invariant.front.within
     (λ k. omega (arith, c.type_inv.text k)) c.loop-copied.invariant.front.front

@@ -1,8 +1,8 @@
 use Rattle.std.{proofs.Common.{◌+◌, arith}, proofs.lemmas.Result.{err_from_is_err_and}, specs.Fn.{CalledAt}}
 use Rattle.std.proofs.{Common.{ap, get_or, inl, inr}, lemmas.Bool.{ne_eqb}}
 use Rattle.data_url.specs.{Decoder.{left_over, state_of}, Steps.Window.{is_no_hash_or_percent}}
-use Rattle.data_url.proofs.forgiving_base64.Holding.{reads_fault, reads_front, reads_unescaped, unescaped_after}
-use Rattle.data_url.proofs.forgiving_base64.Holding.{unescaped_more}
+use Rattle.data_url.proofs.forgiving_base64.Holding.{reads_fault, reads_front, reads_no_hash, no_hash_after}
+use Rattle.data_url.proofs.forgiving_base64.Holding.{no_hash_more}
 use Rattle.data_url.proofs.forgiving_base64.decode.Decoder.feed_to_escape_or_end.Goals as goal
 
 pub returns-in_err-place-clause-fed : goal.returns-in_err-place-clause-fed
@@ -13,7 +13,7 @@ returns-in_err-place-clause-fed g c =
       ended.at,
       record {
         within = ended.within;
-        unescaped = unescaped_after (left_over (state_of c.args.self.now)) _ ended.no_fault;
+        no_hash_or_percent = no_hash_after (left_over (state_of c.args.self.now)) _ ended.no_fault;
         feeds = ended.feeds;
       },
     )
@@ -38,8 +38,8 @@ returns-clause-fed g c =
       c.in_ok-place.place + 1,
       record {
         within = omega (arith, read.ends.0);
-        unescaped = unescaped_more c.args.part.now c.in_ok-place.place read.ends.0
-            (reads_unescaped (CalledAt g.F.FnMut) read.reads)
+        no_hash_or_percent = no_hash_more c.args.part.now c.in_ok-place.place read.ends.0
+            (reads_no_hash (CalledAt g.F.FnMut) read.reads)
             (cc (ne_eqb byte 35 c.if-byte-eq35.false, ne_eqb byte 37 c.if-byte-eq37.false));
         feeds = reads_fault (CalledAt g.F.FnMut) c.args.part.now c.in_ok-place.place read c.refuse.ensures.state;
       },

@@ -1,10 +1,10 @@
 use Rattle.std.proofs.Common.{[], arith, ap, false, length, refl, rules, ◌++◌, ◌<◌, ◌∙◌, ◌≡◌, ◌≤◌}
 use Rattle.data_url.specs.Parts.{left_over_text}
 use Rattle.data_url.specs.Run.{joined_pieces}
-use Rattle.data_url.specs.contracts.parts.output.fn.write_percent_encoded.write as closure
+use Rattle.data_url.specs.contracts.parts.output.fn.write_percent_decoded.write as closure
 use Rattle.data_url.proofs.body.Within.{paused_some}
 use Rattle.data_url.proofs.parts.{Bodies.{plain_goes, plain_good}, Outputs.{passes_keeps, passes_of, passes_written}}
-use Rattle.data_url.proofs.parts.output.write_percent_encoded.Goals as goal
+use Rattle.data_url.proofs.parts.output.write_percent_decoded.Goals as goal
 
 pub returns : goal.returns
 returns c = λ s nothing.
@@ -42,7 +42,7 @@ returns c = λ s nothing.
               after_is = rw text at w.place.ensures.no_hash;
               rest_is = plain_goes s c.args.tail.now (joined_pieces t.run) w.place.result none
                   (body ∙ ap (λ x. joined_pieces t.run ++ x) from.rest_is);
-              nothing_left = λ e. nothing;
+              none_left_over = λ e. nothing;
             })
       ];
     }
