@@ -1,5 +1,5 @@
 //! Rows of texts that users have, in Rattle and through `bindings/rust`. Their closures keep no bytes: they add up how
-//! many there are, and every twelfth byte of each piece.
+//! many there are, and some of them.
 
 use crate::rows::{base64_url, plain_url, Table};
 use crate::texts::{base64, base64_with_escapes, escaped, icon, url, Lines, Numbers};

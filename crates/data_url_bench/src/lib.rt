@@ -4,7 +4,7 @@
 //! Each export returns how many bytes the function returned, or `REFUSED`, and copies them to `out` as far as they fit
 //! there. A driver that compares passes an `out` with room; one that times passes an empty one, so that nothing is
 //! copied. If the function calls a closure with its bytes, the closure writes them to `out`. In the exports whose names
-//! end with `summed` it keeps none, and adds up how many there are, and every twelfth byte of each piece.
+//! end with `summed` it keeps none, and adds up how many there are, and some of them.
 #![tactic(auto)]
 
 ghost use Rattle.std.specs.Prelude.{◌≡◌, length};
