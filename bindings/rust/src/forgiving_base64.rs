@@ -1,7 +1,7 @@
 //! Base64 as the Infra Standard decodes it: <https://infra.spec.whatwg.org/#forgiving-base64-decode>
 
-use crate::library::{self, Base64, Room, DONE};
-use crate::{ROOM, SHORT};
+use crate::library::{self, Base64, Buffer, DONE};
+use crate::{LONG, SHORT};
 use alloc::vec::Vec;
 use core::fmt;
 
@@ -128,16 +128,16 @@ impl<F: FnMut(&[u8]) -> Result<(), E>, E> Decoder<F, E> {
     /// Feeds as `feed` does, through the larger buffer, which is not on the stack where a short part is fed.
     #[inline(never)]
     fn feed_long(&mut self, input: &[u8]) -> Result<(), DecodeError<E>> {
-        self.feed_through::<ROOM>(input)
+        self.feed_through::<LONG>(input)
     }
 
     /// Feeds as `feed` does, through a buffer of `N` bytes.
     #[inline(always)]
     fn feed_through<const N: usize>(&mut self, input: &[u8]) -> Result<(), DecodeError<E>> {
-        let mut room = Room::<N>::new();
+        let mut buffer = Buffer::<N>::new();
         let mut rest = input;
         while self.status == DONE && !rest.is_empty() {
-            let (status, bytes, read) = self.state.feed(rest, &mut room);
+            let (status, bytes, read) = self.state.feed(rest, &mut buffer);
             self.status = status;
             rest = &rest[read..];
             if !bytes.is_empty() {
@@ -165,8 +165,8 @@ impl<F: FnMut(&[u8]) -> Result<(), E>, E> Decoder<F, E> {
         if self.state.is_whole() {
             return Ok(());
         }
-        let mut room = Room::<4>::new();
-        let (status, bytes) = self.state.finish(&mut room);
+        let mut buffer = Buffer::<4>::new();
+        let (status, bytes) = self.state.finish(&mut buffer);
         self.status = status;
         if !bytes.is_empty() {
             (self.write_bytes)(bytes).map_err(DecodeError::WriteError)?;

@@ -74,12 +74,12 @@ pub mod mime;
 pub mod parts;
 
 use forgiving_base64::{DecodeError, InvalidBase64};
-use library::{Body, Room, DONE, MORE};
+use library::{Body, Buffer, DONE, MORE};
 
 /// How many bytes are decoded at most before a closure is called with them.
-const ROOM: usize = 8192;
+const LONG: usize = 8192;
 
-/// A text of fewer bytes than this is decoded into a buffer of this many bytes, in place of `ROOM`.
+/// A text of fewer bytes than this is decoded into a buffer of this many bytes, in place of `LONG`.
 const SHORT: usize = 512;
 
 /// A data: URL: its MIME type, whether its body is base64, and the text after its comma: the body and the fragment.
@@ -184,7 +184,7 @@ impl<'a> DataUrl<'a> {
     where
         F: FnMut(&[u8]) -> Result<(), E>,
     {
-        self.decode_through::<F, E, ROOM>(write_body_bytes)
+        self.decode_through::<F, E, LONG>(write_body_bytes)
     }
 
     /// Decodes as `decode` does, through a buffer of `N` bytes.
@@ -197,9 +197,9 @@ impl<'a> DataUrl<'a> {
         F: FnMut(&[u8]) -> Result<(), E>,
     {
         let mut body = Body::new(self.is_base64);
-        let mut room = Room::<N>::new();
+        let mut buffer = Buffer::<N>::new();
         loop {
-            let (status, bytes) = body.next(self.tail, &mut room);
+            let (status, bytes) = body.next(self.tail, &mut buffer);
             if !bytes.is_empty() {
                 write_body_bytes(bytes).map_err(DecodeError::WriteError)?;
             }

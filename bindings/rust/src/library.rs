@@ -123,13 +123,13 @@ fn check_processor() {
 fn check_processor() {}
 
 /// A buffer on the stack, to which nothing is written yet.
-pub(crate) struct Room<const N: usize> {
+pub(crate) struct Buffer<const N: usize> {
     bytes: [MaybeUninit<u8>; N],
 }
 
-impl<const N: usize> Room<N> {
-    pub(crate) fn new() -> Room<N> {
-        Room {
+impl<const N: usize> Buffer<N> {
+    pub(crate) fn new() -> Buffer<N> {
+        Buffer {
             bytes: [MaybeUninit::uninit(); N],
         }
     }
@@ -156,12 +156,12 @@ fn written<A, T>(
     refuse: impl Fn(u32) -> T,
 ) -> T {
     check_processor();
-    let mut room = Room::<WRITTEN>::new();
+    let mut buffer = Buffer::<WRITTEN>::new();
     let mut more = Vec::new();
-    let mut given = call(room.as_mut_ptr(), WRITTEN);
+    let mut given = call(buffer.as_mut_ptr(), WRITTEN);
     let (status, len) = answer(&given);
     let bytes = if status == DONE {
-        room.written(len)
+        buffer.written(len)
     } else {
         if status != OUTPUT_TOO_SMALL {
             return refuse(refusal(status));
@@ -353,10 +353,10 @@ impl Body {
     pub(crate) fn next<'r, const N: usize>(
         &mut self,
         tail: &str,
-        room: &'r mut Room<N>,
+        buffer: &'r mut Buffer<N>,
     ) -> (u32, &'r [u8]) {
-        let answer = unsafe { self.write_next(tail, room.as_mut_ptr(), N) };
-        (answer.status, room.written(answer.len))
+        let answer = unsafe { self.write_next(tail, buffer.as_mut_ptr(), N) };
+        (answer.status, buffer.written(answer.len))
     }
 
     /// Writes the next bytes of the body to an output of at least `LEAST_ROOM` bytes. Returns the status, and how many
@@ -410,11 +410,12 @@ impl Base64 {
     pub(crate) fn feed<'r, const N: usize>(
         &mut self,
         input: &[u8],
-        room: &'r mut Room<N>,
+        buffer: &'r mut Buffer<N>,
     ) -> (u32, &'r [u8], usize) {
-        let fed =
-            unsafe { dataurl_base64_feed(self, input.as_ptr(), input.len(), room.as_mut_ptr(), N) };
-        (fed.status, room.written(fed.len), fed.read)
+        let fed = unsafe {
+            dataurl_base64_feed(self, input.as_ptr(), input.len(), buffer.as_mut_ptr(), N)
+        };
+        (fed.status, buffer.written(fed.len), fed.read)
     }
 
     /// Whether nothing is left over: the text is valid then, and has no more bytes.
@@ -423,9 +424,12 @@ impl Base64 {
     }
 
     /// Ends the text: the status, and the last bytes.
-    pub(crate) fn finish<'r, const N: usize>(&mut self, room: &'r mut Room<N>) -> (u32, &'r [u8]) {
-        let answer = unsafe { dataurl_base64_finish(self, room.as_mut_ptr(), N) };
-        (answer.status, room.written(answer.len))
+    pub(crate) fn finish<'r, const N: usize>(
+        &mut self,
+        buffer: &'r mut Buffer<N>,
+    ) -> (u32, &'r [u8]) {
+        let answer = unsafe { dataurl_base64_finish(self, buffer.as_mut_ptr(), N) };
+        (answer.status, buffer.written(answer.len))
     }
 }
 

@@ -195,13 +195,13 @@ fn write_call<W: Write>(alloc: Global, name: &str, text: &str, out: &mut W) -> i
     }
 }
 
-/// Reads an input to its end, or until the room is full. Returns how many bytes were read.
-fn read_all<R: Read>(input: &mut R, room: &mut [u8]) -> io::Result<usize>
-    ensures { IfOk result (λ len. len ≤ length room.new) }
+/// Reads an input to its end, or until the buffer is full. Returns how many bytes were read.
+fn read_all<R: Read>(input: &mut R, buffer: &mut [u8]) -> io::Result<usize>
+    ensures { IfOk result (λ len. len ≤ length buffer.new) }
 {
     let mut len = 0;
-    while len < room.len() {
-        let more = input.read(&mut room[len..])?;
+    while len < buffer.len() {
+        let more = input.read(&mut buffer[len..])?;
         if more == 0 {
             break;
         }
@@ -211,9 +211,9 @@ fn read_all<R: Read>(input: &mut R, room: &mut [u8]) -> io::Result<usize>
 }
 
 fn main(rt: HostRuntime) -> io::Result<()> {
-    let mut room = [0; BUFFER_LEN];
-    let len = read_all(&mut rt.stdin(), &mut room)?;
-    let Ok(input) = str::from_utf8(&room[..len]) else {
+    let mut buffer = [0; BUFFER_LEN];
+    let len = read_all(&mut rt.stdin(), &mut buffer)?;
+    let Ok(input) = str::from_utf8(&buffer[..len]) else {
         return Ok(());
     };
     match input.split_once('\n') {
