@@ -59,4 +59,5 @@ pub record StepsBody (tail : List ℕ) (old new : DataUrlBody) (before after : L
       → DoesNothing old new before after × (r.status ≡ 12) × (r.len ≡ 0)
   pub small : IsGoodBody tail old → length before < 8
       → DoesNothing old new before after × (r.status ≡ 5) × (r.len ≡ 0)
-  pub goes : IsGoodBody tail old → 8 ≤ length before → ContinuesOrEnds tail old new before after r.len r.status
+  pub goes : IsGoodBody tail old → 8 ≤ length before
+      → ContinuesOrEnds tail old new before after r.len r.status
