@@ -188,7 +188,7 @@ where
 
     /// Reads the symbols that a text of fewer than 64 bytes begins with, and the white space between and after them.
     /// Calls the closure with the bytes of the groups that they complete. Returns how many bytes of the text were read:
-    /// none if the text is longer or begins with another byte, or if padding came before it.
+    /// none if the text has 64 bytes or more or begins with another byte, or if padding came before it.
     #[inline(always)]
     fn read_short(&mut self, text: &[u8]) -> Result<usize, DecodeError<E>>
         requires callable { F.IsAlwaysCallable (state_of self.old).closure }
@@ -197,10 +197,10 @@ where
         ensures read { ReadsStart (CalledAt F.FnMut) (state_of self.old) text.now result
             (state_of self.new) }
     {
-        let mut at = 0;
         if text.len() >= BLOCK || self.state.padding > 0 {
-            return Ok(at);
+            return Ok(0);
         }
+        let mut at = 0;
         while at < text.len() && is_symbol(text[at]) {
             at += self.read_front(&text[at..])?;
             if at == text.len() {
