@@ -11,7 +11,7 @@ returns-then-text-ge-BLOCK-clause-read g c =
 pub loop-at-init : goal.loop-at-init
 loop-at-init g c = record {
   callable = c.requires.callable;
-  no_padding = omega (arith, c.if-self-gt0.false);
+  no_padding = omega arith;
   within = omega arith;
   reads = reads_none (CalledAt g.F.FnMut) (sound c.args.self.now.state) c.requires.going;
 }
