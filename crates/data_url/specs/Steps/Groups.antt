@@ -2,16 +2,12 @@
 use Rattle.std.specs.Char.{is_ascii_whitespace}
 use Rattle.std.specs.List.{filter, list_all}
 use Rattle.std.specs.Prelude.{[], if◌then◌else◌, ◌%◌, ◌++◌, ◌+◌, ◌/◌, ◌==◌, ◌||◌, ◌∷◌, ◌≡◌, ◌≤◌, Bool, IsTrue, List}
-use Rattle.std.specs.Prelude.{length, map, slice_index, take, ℕ}
+use Rattle.std.specs.Prelude.{length, map, take, ℕ}
 use Rattle.data_url.specs.Base64.{groups, is_symbol, symbol_value}
 use Rattle.data_url.specs.declared.forgiving_base64.held.HeldGroups.{HeldGroups}
 
 abbrev pub is_symbol_or_space : ℕ → Bool
 is_symbol_or_space b = is_symbol b || is_ascii_whitespace b
-
--- the text begins with a symbol
-abbrev pub BeginsWithSymbol : List ℕ → Type 0
-BeginsWithSymbol text = (1 ≤ length text) × IsTrue (is_symbol (slice_index text 0))
 
 -- the items whose bits are 0, from the lowest bit on
 abbrev pub clear : List ℕ → ℕ → List ℕ

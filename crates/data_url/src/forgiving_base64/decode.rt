@@ -33,8 +33,7 @@ impl<F, E> Decoder<F, E>
 where
     F: FnMut(&[u8]) -> Result<(), E>,
 {
-    ghost use Rattle.std.specs.{Fn.{CalledAt}, Prelude.{IfOk}};
-    ghost use Rattle.data_url.specs.Steps.Groups.{BeginsWithSymbol};
+    ghost use Rattle.std.specs.Fn.{CalledAt};
     ghost use Rattle.data_url.specs.Decoder.{Feeds, Finishes, start, state_of};
     ghost use Rattle.data_url.specs.Steps.Holding.{CallsOnce, FeedsToEscapeOrEnd, Flushes, ReadsStart};
     ghost use Rattle.data_url.specs.Steps.Holding.{ReadsUntilFault};
@@ -167,13 +166,10 @@ where
     /// 64 symbols, with those left over. Returns how many bytes of the text were read.
     #[inline(always)]
     fn read_front(&mut self, text: &[u8]) -> Result<usize, DecodeError<E>>
-        requires some { BeginsWithSymbol text.now }
         requires no_padding { (state_of self.old).padding ≡ 0 }
         requires callable { F.IsAlwaysCallable (state_of self.old).closure }
         requires going { (state_of self.old).failed ≡ false }
         ensures callable { F.IsAlwaysCallable (state_of self.new).closure }
-        ensures no_padding { (state_of self.new).padding ≡ 0 }
-        ensures some { IfOk result (λ read. 1 ≤ read) }
         ensures read { ReadsStart (CalledAt F.FnMut) (state_of self.old) text.now result
             (state_of self.new) }
     {
@@ -186,29 +182,26 @@ where
         Ok(read)
     }
 
-    /// Reads the symbols that a text of fewer than 64 bytes begins with, and the white space between and after them.
-    /// Calls the closure with the bytes of the groups that they complete. Returns how many bytes of the text were read:
-    /// none if the text has 64 bytes or more or begins with another byte, or if padding came before it.
+    /// Reads the symbols at the start of a text of fewer than 64 bytes, and the white space after them. Calls the
+    /// closure with the bytes of the groups that the symbols complete. Returns how many bytes of the text were read:
+    /// none if the text is longer or begins with another byte, or if padding came before it.
     #[inline(always)]
     fn read_short(&mut self, text: &[u8]) -> Result<usize, DecodeError<E>>
+        requires some { 1 ≤ length text.now }
         requires callable { F.IsAlwaysCallable (state_of self.old).closure }
         requires going { (state_of self.old).failed ≡ false }
         ensures callable { F.IsAlwaysCallable (state_of self.new).closure }
         ensures read { ReadsStart (CalledAt F.FnMut) (state_of self.old) text.now result
             (state_of self.new) }
     {
-        if text.len() >= BLOCK || self.state.padding > 0 {
+        if text.len() >= BLOCK || !is_symbol(text[0]) || self.state.padding > 0 {
             return Ok(0);
         }
-        let mut at = 0;
-        while at < text.len() && is_symbol(text[at]) {
-            at += self.read_front(&text[at..])?;
-            if at == text.len() {
-                return Ok(at);
-            }
-            at += spaces_len(&text[at..]);
+        let read = self.read_front(text)?;
+        if read == text.len() {
+            return Ok(read);
         }
-        Ok(at)
+        Ok(read + spaces_len(&text[read..]))
     }
 
     /// Feeds a text up to its first fault, and holds the bytes of its groups until there are 64. Returns the place of

@@ -1,7 +1,7 @@
 //! Decodes the groups of a text of base64 (RFC 4648, section 4), in rows of sixteen bytes. White space, `=` and faults
 //! that the rows do not pass over are read byte by byte.
 
-ghost use Rattle.std.specs.Prelude.{◌≡◌, ◌<◌, ◌≤◌, ◌++◌, ◌-◌, ◌*◌, ◌/◌, IsTrue, MatchResult};
+ghost use Rattle.std.specs.Prelude.{◌≡◌, ◌<◌, ◌≤◌, ◌++◌, ◌-◌, ◌*◌, ◌/◌, IsTrue, MatchOption, MatchResult};
 ghost use Rattle.std.specs.Prelude.{drop, length, replicate, slice_index, take};
 ghost use Rattle.std.specs.List.{list_all};
 ghost use Rattle.data_url.specs.Base64.{is_symbol};
@@ -99,7 +99,7 @@ impl HeldGroups {
 }
 
 impl LeftOver {
-    ghost use Rattle.data_url.specs.Steps.Groups.{BeginsWithSymbol, held_bytes};
+    ghost use Rattle.data_url.specs.Steps.Groups.{held_bytes};
     ghost use Rattle.data_url.specs.Steps.Holding.{Completes, Gains, Refuses, left_state};
 
     /// Returns a row that has the symbols left over, then the bytes that a text begins with and, if the text is shorter
@@ -139,10 +139,7 @@ impl LeftOver {
     /// the text were read, and how many bytes the groups have.
     #[inline(always)]
     pub(super) fn decode_front(&mut self, text: &[u8], bytes: &mut [u8; BLOCK]) -> (usize, usize)
-        requires some { BeginsWithSymbol text.now }
         requires no_padding { self.old.padding ≡ 0 }
-        ensures no_padding { self.new.padding ≡ 0 }
-        ensures some { 1 ≤ result.0 }
         ensures sizes { (result.0 ≤ length text.now) × (result.1 ≤ 48) }
         ensures read { Completes (left_state self.old) (take result.0 text.now)
             (take result.1 bytes.new) (left_state self.new) }
@@ -167,7 +164,7 @@ impl LeftOver {
     /// of the groups that are complete then. Returns how many symbols were read.
     #[inline(always)]
     fn read_symbols(&mut self, text: &[u8], groups: &mut HeldGroups) -> usize
-        requires some { BeginsWithSymbol text.now }
+        requires some { (1 ≤ length text.now) × IsTrue (is_symbol (slice_index text.now 0)) }
         requires no_padding { self.old.padding ≡ 0 }
         requires room { groups.old.len < 192 }
         ensures { Gains (left_state self.old) (held_bytes groups.old) text.now result

@@ -1,7 +1,7 @@
 use Rattle.std.proofs.Common.{◌*◌, ◌+◌, ◌-◌, ◌/◌, ◌∙◌, ap, arith, length-take-le, refl}
 use Rattle.std.proofs.lemmas.List.{take_rest}
 use Rattle.data_url.specs.{Steps.Holding.{left_state}}
-use Rattle.data_url.proofs.forgiving_base64.Joined.{completes_front, fronts_first, fronts_more, joins_left, some_read}
+use Rattle.data_url.proofs.forgiving_base64.Joined.{completes_front, fronts_first, fronts_more, joins_left}
 use Rattle.data_url.proofs.forgiving_base64.Groups.{put_front}
 use Rattle.data_url.proofs.forgiving_base64.Steps.{sound}
 use Rattle.data_url.proofs.forgiving_base64.left_over.LeftOver.decode_front.Goals as goal
@@ -20,8 +20,6 @@ loop-count-init c =
     let is = c.symbols_ahead-count.ensures.starts in
     record {
       few = (c.symbols_ahead-count.ensures.few, (omega arith, refl));
-      some = some_read d c.args.text.now c.row_with-row.result (omega arith) c.row_with-row.ensures is
-          c.requires.some.0 c.requires.some.1;
       long = omega arith;
       fronts = fronts_first (n - d.pending) n c.decode_row.result
           (joins_left d c.args.text.now c.row_with-row.result (omega arith) c.row_with-row.ensures is) is (omega arith)
@@ -37,7 +35,6 @@ loop-count-preserved c =
     let front = rw c.loop-count-test.true at l.invariant.fronts in
     record {
       few = (c.symbols_ahead-count-in-loop-count.ensures.few, (omega arith, omega arith));
-      some = omega (arith, l.invariant.some);
       long = omega arith;
       fronts = fronts_more l.read m c.decode_row-in-loop-count.result front l.invariant.long
           (rw (take_rest c.args.text.now l.read) at c.first_row-row.ensures)

@@ -7,7 +7,6 @@ use Rattle.data_url.proofs.forgiving_base64.left_over.LeftOver.decode_front.Give
 abbrev pub invariant-loop-count : goal.invariant-loop-count
 invariant-loop-count l = record {
   few : (l.count ≤ 16) × ((l.len ≤ 36) × (l.len % 12 ≡ 0));
-  some : 1 ≤ l.read;
   long : length l.row ≡ 16;
   fronts : Fronts (take l.fn.self.pending l.fn.self.symbols) l.text l.row
       (take (l.len + l.count / 4 * 3) l.bytes) l.read l.count;
