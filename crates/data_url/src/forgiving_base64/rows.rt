@@ -1,14 +1,16 @@
 //! Decodes the groups of a text of base64 (RFC 4648, section 4), in rows of sixteen bytes. White space, `=` and faults
 //! that the rows do not pass over are read byte by byte.
 
-ghost use Rattle.std.specs.Prelude.{◌≡◌, ◌<◌, ◌≤◌, ◌++◌, ◌-◌, ◌*◌, ◌/◌, IsTrue, MatchOption, MatchResult};
-ghost use Rattle.std.specs.Prelude.{drop, length, replicate, slice_index, take};
+ghost use Rattle.std.specs.Prelude.{◌≡◌, ◌<◌, ◌≤◌, ◌++◌, ◌+◌, ◌-◌, ◌*◌, ◌/◌, ◌%◌, IsTrue, MatchOption};
+ghost use Rattle.std.specs.Prelude.{MatchResult, drop, length, replicate, slice_index, take};
 ghost use Rattle.std.specs.List.{list_all};
 ghost use Rattle.data_url.specs.Base64.{is_symbol};
 
 use super::InvalidBase64Details;
-use super::alphabet::{decode_row, is_of_symbols, is_symbol, symbols_ahead};
-use super::gaps::{before_partial, decode_unit, pack_rows, row_over_gap, spaces_after_twelve};
+use super::alphabet::{decode_row, is_of_symbols, is_symbol, spaced_ahead, symbols_ahead};
+use super::gaps::{
+    before_partial, decode_unit, pack_front, pack_rows, row_over_gap, spaces_after_twelve,
+};
 use super::held::{FULL, HeldGroups};
 use super::left_over::LeftOver;
 use crate::classes::lanes::{BLOCK, ROW, first_row, put, repeated, rotated, row, spliced};
@@ -160,23 +162,26 @@ impl LeftOver {
         (read, len + count / 4 * 3)
     }
 
-    /// Reads the symbols that a text begins with, as many as have room in a row after those left over. Adds the bytes
-    /// of the groups that are complete then. Returns how many symbols were read.
+    /// Reads a symbol, and the symbols and the white space after it, as many bytes of a text as have room in a row
+    /// after the symbols left over. Writes the bytes of the groups that are complete then from the place `at` on, and
+    /// after them bytes that are of no use. Returns how many bytes of the text were read, and how many bytes the groups
+    /// have.
     #[inline(always)]
-    fn read_symbols(&mut self, text: &[u8], groups: &mut HeldGroups) -> usize
+    fn read_row(&mut self, text: &[u8], bytes: &mut [u8], at: usize) -> (usize, usize)
         requires some { (1 ≤ length text.now) × IsTrue (is_symbol (slice_index text.now 0)) }
         requires no_padding { self.old.padding ≡ 0 }
-        requires room { groups.old.len < 192 }
-        ensures { Gains (left_state self.old) (held_bytes groups.old) text.now result
-            (left_state self.new) (held_bytes groups.new) }
+        requires room { at + 16 ≤ length bytes.old }
+        ensures whole { (result.1 ≤ 12) × (result.1 % 3 ≡ 0) }
+        ensures read { Gains (left_state self.old) (take at bytes.old) text.now result.0
+            (left_state self.new) (take (at + result.1) bytes.new) }
     {
         let row = self.row_with(text);
-        let count = symbols_ahead(row);
-        put(&mut groups.bytes, groups.len, decode_row(row));
-        groups.len += count / 4 * 3;
-        let read = count - self.pending;
-        self.keep_after_groups(row, count);
-        read
+        let end = spaced_ahead(row);
+        let (symbols, count) = pack_front(row, end);
+        put(bytes, at, decode_row(symbols));
+        let read = end - self.pending;
+        self.keep_after_groups(symbols, count);
+        (read, count / 4 * 3)
     }
 
     /// Reads whole groups, or symbols, or one other byte that a text begins with, after what is left over of the text
@@ -212,7 +217,9 @@ impl LeftOver {
         } else if self.padding > 0 {
             return Err(InvalidBase64Details::AlphabetSymbolAfterPadding);
         } else {
-            return Ok(self.read_symbols(text, groups));
+            let (read, len) = self.read_row(text, &mut groups.bytes, groups.len);
+            groups.len += len;
+            return Ok(read);
         }
         Ok(1)
     }

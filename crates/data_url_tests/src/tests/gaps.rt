@@ -187,3 +187,41 @@ fn a_gap_and_a_fault_in_two_parts(rt: HostRuntime) -> Result<(), Fail> {
     }
     Ok(())
 }
+
+/// Returns the symbols before a place, with a gap after every few of them.
+fn spaced_text(alloc: Global, end: usize, every: usize, gap: &str) -> Result<String, AllocError> {
+    let mut text = format!(in alloc; "")?;
+    for place in 0..end {
+        let symbol = part_of(SYMBOLS[0], place, place.saturating_add(1));
+        let between = if place > 0 && place % every == 0 { gap } else { "" };
+        text = format!(in alloc; "{text}{between}{symbol}")?;
+    }
+    Ok(text)
+}
+
+/// Asserts what symbols with a gap after every few of them decode to, at once and cut after as many bytes.
+fn assert_spaced(
+    rt: &impl Abort,
+    alloc: Global,
+    end: usize,
+    every: usize,
+    gap: &str,
+) -> Result<(), AllocError> {
+    let text = spaced_text(alloc, end, every, gap)?;
+    let text = text.as_bytes();
+    let message = if end % 4 == 1 { LONE } else { "" };
+    assert_parts(rt, alloc, "spaced", &[text], end, message)?;
+    let (front, back) = text.split_at(every.min(text.len()));
+    assert_parts(rt, alloc, "spaced, cut", &[front, back], end, message)
+}
+
+#[test]
+fn a_gap_after_every_few_symbols(rt: HostRuntime) -> Result<(), Fail> {
+    for every in 1..21 {
+        for end in 1..50 {
+            assert_spaced(&rt, rt.alloc(), end, every, "\n")?;
+            assert_spaced(&rt, rt.alloc(), end, every, "\r\n ")?;
+        }
+    }
+    Ok(())
+}
