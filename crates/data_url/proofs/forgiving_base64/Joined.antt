@@ -1,10 +1,8 @@
 -- The symbols that are left over, and then those that a text begins with, in one row. For `row_with`, and for what
 -- reads such rows.
-use Rattle.std.proofs.Common.{append_assoc, Bool, filter, List, [], ◌∷◌}
-use Rattle.std.proofs.Common.{ap, append-nil, arith, drop, false, get_or, length}
-use Rattle.std.proofs.Common.{length-drop, length-take, length-take-le, map, refl, replicate, suc, sym, take, take-add}
-use Rattle.std.proofs.Common.{take-take, true, zero, ℕ, ◌%◌, ◌*◌, ◌++◌, ◌+◌, ◌-◌, ◌/◌}
-use Rattle.std.proofs.Common.{◌∙◌, ◌≡◌, ◌≤◌}
+use Rattle.std.proofs.Common.{append_assoc, Bool, filter, List, [], ◌∷◌, ap, append-nil, arith, drop, false, get_or}
+use Rattle.std.proofs.Common.{length, length-drop, length-take, length-take-le, map, refl, replicate, suc, sym, take}
+use Rattle.std.proofs.Common.{take-add, take-take, true, zero, ℕ, ◌%◌, ◌*◌, ◌++◌, ◌+◌, ◌-◌, ◌/◌, ◌∙◌, ◌≡◌, ◌≤◌}
 use Rattle.std.proofs.Math.Seq.{drop-append-add, take-append-add}
 use Rattle.std.proofs.lemmas.Bool.{and_parts}
 use Rattle.std.proofs.lemmas.List.{drop-take, length-map, map-append, nil_from_length, take-append-le}
@@ -65,7 +63,7 @@ prefix_after pass [] s h = omega arith
 prefix_after pass (x ∷ q) s h =
     let p = and_parts (pass x) (list_all pass q) h in grind (arith, prefix_after pass q s p.1)
 
--- such a row begins with the symbols left over and then with those of the text
+-- such a row begins with the symbols left over and then with bytes of the text that pass
 joins : (pass : ℕ → Bool) (q text row : List ℕ) (p : ℕ) → pass 0 ≡ false → length q ≡ p → p ≤ 3
     → list_all pass q ≡ true → row ≡ q ++ take (16 - p) (text ++ replicate 16 0)
     → Joins pass q text row (prefix_len pass row - p)
@@ -270,9 +268,10 @@ module _ {F : Type 0} (d d' : State F) (text row packed decoded : List ℕ) (end
     (decodes : DecodesFront packed decoded) (s : IsSound d.symbols d.padding) (none : d.padding ≡ 0)
     (closure : d'.closure ≡ d.closure) (left : d'.symbols ≡ drop (count / 4 * 4) (take count packed))
     (padding : d'.padding ≡ 0) (going : d'.failed ≡ false) where
-  -- the symbols of a row are packed and read
-  completes_packed : Completes d (take read text) (take (count / 4 * 3) decoded) d'
-  completes_packed =
+  -- the symbols of a row are packed and read, and the bytes of their groups are held after others
+  pub gains_packed : {held more : List ℕ} → 1 ≤ read → more ≡ held ++ take (count / 4 * 3) decoded
+      → Gains d held text read d' more
+  gains_packed some is =
       let q = d.symbols in
       let t = take read text in
       let k = filter is_symbol t in
@@ -280,25 +279,19 @@ module _ {F : Type 0} (d d' : State F) (text row packed decoded : List ℕ) (end
       (sym (list_all-append is_symbol_or_space q t) ∙ j.all) in
       let all : list_all is_symbol (take count packed) ≡ true =
       ap (list_all is_symbol) (sym kept) ∙ symbols_kept (take end row) in
-      let same : take count packed ≡ q ++ k = cc (
-        kept,
-        ap (λ n. take n row) (ends ∙ j.count),
-        j.same,
-        filter-append is_symbol q t,
-        filter_all is_symbol q s.every,
-      ) in
-      completes_spaced t k s none parts.1 refl
-      (decoded_groups packed decoded count long few all decodes ∙ ap (λ x. groups (map symbol_value x)) same) closure
-      (left ∙ cc (after_is (take count packed), length-take-le count packed (omega (arith, few, long)), same)) padding
-      going
-
-  -- their bytes are held after others
-  pub gains_packed : {held more : List ℕ} → 1 ≤ read → more ≡ held ++ take (count / 4 * 3) decoded
-      → Gains d held text read d' more
-  gains_packed some is = record {
-    some = some;
-    within = j.within;
-    more = take (count / 4 * 3) decoded;
-    completes = completes_packed;
-    held_are = is;
-  }
+      let front = ap (λ n. take n row) (ends ∙ j.count) in
+      let same : take count packed ≡ q ++ k =
+      cc (kept, front, j.same, filter-append is_symbol q t, filter_all is_symbol q s.every) in
+      record {
+        some = some;
+        within = j.within;
+        more = take (count / 4 * 3) decoded;
+        completes = completes_spaced t k s none parts.1 refl
+            (decoded_groups packed decoded count long few all decodes ∙ ap (λ x. groups (map symbol_value x)) same)
+            closure (left ∙ cc (
+              after_is (take count packed),
+              length-take-le count packed (omega (arith, few, long)),
+              same,
+            )) padding going;
+        held_are = is;
+      }

@@ -88,7 +88,7 @@ pub(crate) fn symbols_ahead(bytes: u8x16) -> usize
     (non_symbols(bytes) as u16).trailing_zeros() as usize
 }
 
-/// Returns how many symbols or bytes of white space a row begins with.
+/// Returns how many bytes that are symbols or white space a row begins with.
 #[inline(always)]
 pub(crate) fn spaced_ahead(bytes: u8x16) -> usize
     ensures few { result ≤ 16 }

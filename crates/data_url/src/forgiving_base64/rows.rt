@@ -1,8 +1,8 @@
 //! Decodes the groups of a text of base64 (RFC 4648, section 4), in rows of sixteen bytes. White space, `=` and faults
 //! that the rows do not pass over are read byte by byte.
 
-ghost use Rattle.std.specs.Prelude.{◌≡◌, ◌<◌, ◌≤◌, ◌++◌, ◌+◌, ◌-◌, ◌*◌, ◌/◌, ◌%◌, IsTrue, MatchOption};
-ghost use Rattle.std.specs.Prelude.{MatchResult, drop, length, replicate, slice_index, take};
+ghost use Rattle.std.specs.Prelude.{◌≡◌, ◌<◌, ◌≤◌, ◌++◌, ◌-◌, ◌*◌, ◌/◌, IsTrue, MatchOption, MatchResult};
+ghost use Rattle.std.specs.Prelude.{drop, length, replicate, slice_index, take};
 ghost use Rattle.std.specs.List.{list_all};
 ghost use Rattle.data_url.specs.Base64.{is_symbol};
 
@@ -162,31 +162,30 @@ impl LeftOver {
         (read, len + count / 4 * 3)
     }
 
-    /// Reads a symbol, and the symbols and the white space after it, as many bytes of a text as have room in a row
-    /// after the symbols left over. Writes the bytes of the groups that are complete then from the place `at` on, and
-    /// after them bytes that are of no use. Returns how many bytes of the text were read, and how many bytes the groups
-    /// have.
+    /// Reads the symbol that a text begins with, and the symbols and the white space after it, as many bytes as have
+    /// room in a row after the symbols left over. Adds the bytes of the groups that are complete then. Returns how many
+    /// bytes of the text were read.
     #[inline(always)]
-    fn read_row(&mut self, text: &[u8], bytes: &mut [u8], at: usize) -> (usize, usize)
+    fn read_row(&mut self, text: &[u8], groups: &mut HeldGroups) -> usize
         requires some { (1 ≤ length text.now) × IsTrue (is_symbol (slice_index text.now 0)) }
         requires no_padding { self.old.padding ≡ 0 }
-        requires room { at + 16 ≤ length bytes.old }
-        ensures whole { (result.1 ≤ 12) × (result.1 % 3 ≡ 0) }
-        ensures read { Gains (left_state self.old) (take at bytes.old) text.now result.0
-            (left_state self.new) (take (at + result.1) bytes.new) }
+        requires room { groups.old.len < 192 }
+        ensures { Gains (left_state self.old) (held_bytes groups.old) text.now result
+            (left_state self.new) (held_bytes groups.new) }
     {
         let row = self.row_with(text);
         let end = spaced_ahead(row);
         let (symbols, count) = pack_front(row, end);
-        put(bytes, at, decode_row(symbols));
+        put(&mut groups.bytes, groups.len, decode_row(symbols));
+        groups.len += count / 4 * 3;
         let read = end - self.pending;
         self.keep_after_groups(symbols, count);
-        (read, count / 4 * 3)
+        read
     }
 
-    /// Reads whole groups, or symbols, or one other byte that a text begins with, after what is left over of the text
-    /// before. Adds the bytes of the groups that are complete then. Returns how many bytes of the text were read, or
-    /// the kind of the fault if the first byte is one.
+    /// Reads whole groups, or a row of symbols and white space, or one other byte that a text begins with, after what
+    /// is left over of the text before. Adds the bytes of the groups that are complete then. Returns how many bytes of
+    /// the text were read, or the kind of the fault if the first byte is one.
     #[inline(always)]
     pub(super) fn read_groups_or_byte(
         &mut self,
@@ -217,9 +216,7 @@ impl LeftOver {
         } else if self.padding > 0 {
             return Err(InvalidBase64Details::AlphabetSymbolAfterPadding);
         } else {
-            let (read, len) = self.read_row(text, &mut groups.bytes, groups.len);
-            groups.len += len;
-            return Ok(read);
+            return Ok(self.read_row(text, groups));
         }
         Ok(1)
     }

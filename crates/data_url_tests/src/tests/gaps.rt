@@ -193,13 +193,17 @@ fn spaced_text(alloc: Global, end: usize, every: usize, gap: &str) -> Result<Str
     let mut text = format!(in alloc; "")?;
     for place in 0..end {
         let symbol = part_of(SYMBOLS[0], place, place.saturating_add(1));
-        let between = if place > 0 && place % every == 0 { gap } else { "" };
+        let between = if place > 0 && place % every == 0 {
+            gap
+        } else {
+            ""
+        };
         text = format!(in alloc; "{text}{between}{symbol}")?;
     }
     Ok(text)
 }
 
-/// Asserts what symbols with a gap after every few of them decode to, at once and cut after as many bytes.
+/// Asserts what symbols with a gap after every few of them decode to, at once and in two halves.
 fn assert_spaced(
     rt: &impl Abort,
     alloc: Global,
@@ -211,8 +215,8 @@ fn assert_spaced(
     let text = text.as_bytes();
     let message = if end % 4 == 1 { LONE } else { "" };
     assert_parts(rt, alloc, "spaced", &[text], end, message)?;
-    let (front, back) = text.split_at(every.min(text.len()));
-    assert_parts(rt, alloc, "spaced, cut", &[front, back], end, message)
+    let (front, back) = text.split_at(text.len() / 2);
+    assert_parts(rt, alloc, "spaced, in halves", &[front, back], end, message)
 }
 
 #[test]

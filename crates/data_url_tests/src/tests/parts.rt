@@ -375,7 +375,7 @@ fn empty_parts_and_many_padding_signs(rt: HostRuntime) -> Result<(), Fail> {
 }
 
 /// Lengths of outputs: some have a byte for each symbol of a part, and some have not.
-const OUTPUTS: [usize; 9] = [3, 4, 5, 6, 8, 9, 15, 16, LONGEST_OUTPUT];
+const OUTPUTS: [usize; 10] = [3, 4, 5, 6, 7, 8, 9, 15, 16, LONGEST_OUTPUT];
 
 #[test]
 fn base64_in_parts(rt: HostRuntime) -> Result<(), Fail> {

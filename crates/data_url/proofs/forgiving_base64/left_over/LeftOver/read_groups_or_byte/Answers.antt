@@ -45,14 +45,8 @@ returns-then-self-gt0 c = (
   grind unfilled,
 )
 
-pub read_row-read-requires-clause-room : goal.read_row-read-requires-clause-room
-read_row-read-requires-clause-room c =
-    let groups = c.if-is_between_groups.groups in
-    let same : held_bytes groups ≡ held_bytes c.args.groups.now = grind unfilled in
-    omega (arith, ap length same, held_len groups, held_len c.args.groups.now, c.requires.room, groups.sized)
-
-pub invariant_of-groups-clause-within : goal.invariant_of-groups-clause-within
-invariant_of-groups-clause-within c =
+pub read_row-requires-clause-room : goal.read_row-requires-clause-room
+read_row-requires-clause-room c =
     let groups = c.if-is_between_groups.groups in
     let same : held_bytes groups ≡ held_bytes c.args.groups.now = grind unfilled in
     omega (arith, ap length same, held_len groups, held_len c.args.groups.now, c.requires.room)
@@ -60,4 +54,4 @@ invariant_of-groups-clause-within c =
 pub returns-else-self-gt0 : goal.returns-else-self-gt0
 returns-else-self-gt0 c =
     let same : held_bytes c.if-is_between_groups.groups ≡ held_bytes c.args.groups.now = grind unfilled in
-    rw same at c.read_row-read.ensures.read
+    rw same at c.read_row.ensures
