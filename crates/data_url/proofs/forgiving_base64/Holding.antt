@@ -1,6 +1,4 @@
 -- Feeding while decoded bytes are held. For the functions of `Decoder` that feed.
-use Rattle.data_url.proofs.forgiving_base64.Steps.{completes_none, completes_space, completes_text, fault_space}
-use Rattle.data_url.proofs.forgiving_base64.Steps.{fault_symbol, feeds_then, has_pad, left_goes_on, one_call, told_call}
 use Rattle.std.proofs.Common.{Option, None, Some, is_some, Result, Ok, Err, refl, ap, sym, ◌∙◌, subst, arith}
 use Rattle.std.proofs.Common.{append_assoc, drop-drop, length-append, take-append-drop, append-nil, false, cond, min}
 use Rattle.std.proofs.Common.{◌&&◌, ◌||◌, List, [], ◌∷◌, ◌++◌, length, map, drop, get_or, take, take-add, get_or-drop}
@@ -22,6 +20,10 @@ use Rattle.data_url.specs.declared.forgiving_base64.held.HeldGroups.{HeldGroups}
 use Rattle.data_url.proofs.forgiving_base64.{Groups.{prefix_passes, symbols_alone}, Padding.{every_list_all}}
 use Rattle.data_url.proofs.forgiving_base64.Padding.{fault-append, fault_byte, fault_none, filter_all, is_pad, is_bad}
 use Rattle.data_url.proofs.{forgiving_base64.Padding.{length-after_groups, passed}, forgiving_base64.Steps.{IsSound}}
+use Rattle.data_url.proofs.forgiving_base64.Steps.{completes_none, completes_space, completes_text, fault_space}
+use Rattle.data_url.proofs.forgiving_base64.Steps.{fault_symbol}
+use Rattle.data_url.proofs.forgiving_base64.Steps.{feeds_then, has_pad}
+use Rattle.data_url.proofs.forgiving_base64.Steps.{left_goes_on, one_call, told_call}
 use Rattle.data_url.proofs.runs.Runs.{joined_pieces-append, match_at, match_none, refusal-append, run-append}
 
 -- A text of symbols and white space has no fault and no padding

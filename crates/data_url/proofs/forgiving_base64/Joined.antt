@@ -1,21 +1,20 @@
 -- The symbols that are left over, and then those that a text begins with, in one row. For `row_with`, and for what
 -- reads such rows.
-use Rattle.std.proofs.Common.{append_assoc, Bool, filter, List, [], ◌∷◌, ap, append-nil, arith, drop, false, get_or}
-use Rattle.std.proofs.Common.{length, length-drop, length-take, length-take-le, map, refl, replicate, suc, sym, take}
-use Rattle.std.proofs.Common.{take-add, take-take, true, zero, ℕ, ◌%◌, ◌*◌, ◌++◌, ◌+◌, ◌-◌, ◌/◌, ◌∙◌, ◌≡◌, ◌≤◌}
+use Rattle.std.proofs.Common.{append_assoc, List, [], ◌∷◌, ap, append-nil, arith, drop, false, get_or, length}
+use Rattle.std.proofs.Common.{length-drop, length-take, length-take-le, map, refl, replicate, suc, sym, take, take-add}
+use Rattle.std.proofs.Common.{take-take, true, zero, ℕ, ◌%◌, ◌*◌, ◌++◌, ◌+◌, ◌-◌, ◌/◌}
+use Rattle.std.proofs.Common.{◌∙◌, ◌≡◌, ◌≤◌}
 use Rattle.std.proofs.Math.Seq.{drop-append-add, take-append-add}
 use Rattle.std.proofs.lemmas.Bool.{and_parts}
 use Rattle.std.proofs.lemmas.List.{drop-take, length-map, map-append, nil_from_length, take-append-le}
 use Rattle.std.proofs.lemmas.List.Folds.{list_all-append}
 use Rattle.std.proofs.lemmas.List.Sums.{prefix_len-le-length}
-use Rattle.std.proofs.lemmas.List.Elements.{filter-append}
 use Rattle.std.specs.List.{list_all, prefix_len}
 use Rattle.data_url.specs.Base64.{after_groups, groups, is_symbol, symbol_value}
 use Rattle.data_url.specs.declared.forgiving_base64.left_over.LeftOver as left
 use Rattle.data_url.specs.{Decoder.{State}, Steps.Holding.{Completes, Gains}, Steps.Lanes.{DecodesFront}}
-use Rattle.data_url.specs.Steps.Groups.{is_symbol_or_space}
 use Rattle.data_url.proofs.classes.FirstRows.{padded_front}
-use Rattle.data_url.proofs.forgiving_base64.Groups.{prefix_end, prefix_passes, symbols_alone, symbols_kept}
+use Rattle.data_url.proofs.forgiving_base64.Groups.{prefix_passes, symbols_alone, symbols_end}
 use Rattle.data_url.proofs.forgiving_base64.Holding.{completes_spaced}
 use Rattle.data_url.proofs.forgiving_base64.Padding.{after_groups-append, after_is, every_list_all, filter_all}
 use Rattle.data_url.proofs.forgiving_base64.Padding.{length-after_groups}
@@ -49,34 +48,32 @@ pub joined_none : (symbols text : List ℕ) {p : ℕ} → p ≡ 0
     → take 16 (text ++ replicate 16 0) ≡ take p symbols ++ take (16 - p) (text ++ replicate 16 0)
 joined_none symbols text e = rw e refl
 
--- the row begins with the symbols left over and then with `read` bytes of the text that pass a test, and no more
-pub record Joins (pass : ℕ → Bool) (q text row : List ℕ) (read : ℕ) : Type 0 where
+-- the row begins with the symbols left over and then with `read` symbols of the text, and no more
+pub record Joins (q text row : List ℕ) (read : ℕ) : Type 0 where
   pub within : read ≤ length text
-  pub count : prefix_len pass row ≡ length q + read
+  pub count : prefix_len is_symbol row ≡ length q + read
   pub same : take (length q + read) row ≡ q ++ take read text
-  pub all : list_all pass (q ++ take read text) ≡ true
+  pub all : list_all is_symbol (q ++ take read text) ≡ true
 
 -- if all items of a list pass, so do those that another one begins with after it
-prefix_after : (pass : ℕ → Bool) (q s : List ℕ) → list_all pass q ≡ true
-    → prefix_len pass (q ++ s) ≡ length q + prefix_len pass s
-prefix_after pass [] s h = omega arith
-prefix_after pass (x ∷ q) s h =
-    let p = and_parts (pass x) (list_all pass q) h in grind (arith, prefix_after pass q s p.1)
+prefix_after : (q s : List ℕ) → list_all is_symbol q ≡ true
+    → prefix_len is_symbol (q ++ s) ≡ length q + prefix_len is_symbol s
+prefix_after [] s h = omega arith
+prefix_after (x ∷ q) s h =
+    let p = and_parts (is_symbol x) (list_all is_symbol q) h in grind (arith, prefix_after q s p.1)
 
--- such a row begins with the symbols left over and then with bytes of the text that pass
-joins : (pass : ℕ → Bool) (q text row : List ℕ) (p : ℕ) → pass 0 ≡ false → length q ≡ p → p ≤ 3
-    → list_all pass q ≡ true → row ≡ q ++ take (16 - p) (text ++ replicate 16 0)
-    → Joins pass q text row (prefix_len pass row - p)
-joins pass q text row p zero_fails long few passed is =
+-- such a row begins with the symbols left over and then with those of the text
+joins : (q text row : List ℕ) (p : ℕ) → length q ≡ p → p ≤ 3 → list_all is_symbol q ≡ true
+    → row ≡ q ++ take (16 - p) (text ++ replicate 16 0) → Joins q text row (prefix_len is_symbol row - p)
+joins q text row p long few symbols is =
     let s = take (16 - p) (text ++ replicate 16 0) in
-    let read = prefix_len pass s in
-    let count : prefix_len pass row ≡ length q + read = ap (prefix_len pass) is ∙ prefix_after pass q s passed in
-    let read_is : prefix_len pass row - p ≡ read = omega (arith, count, long) in
+    let read = prefix_len is_symbol s in
+    let count : prefix_len is_symbol row ≡ length q + read = ap (prefix_len is_symbol) is ∙ prefix_after q s symbols in
+    let read_is : prefix_len is_symbol row - p ≡ read = omega (arith, count, long) in
     let front = take (16 - p) text in
     let zeros : List ℕ = replicate (16 - p - length text) 0 in
     let s_is : s ≡ front ++ zeros = padded_front text (16 - p) (omega arith) in
-    let few_read : read ≤ length front =
-    rw (sym s_is) at (prefix_end pass front (16 - p - length text) zero_fails) in
+    let few_read : read ≤ length front = rw (sym s_is) at (symbols_end front (16 - p - length text)) in
     let size = length-take (16 - p) text in
     let same : take (length q + read) row ≡ q ++ take read text =
     ap (take (length q + read)) is ∙ take-append-add q s read
@@ -86,35 +83,32 @@ joins pass q text row p zero_fails long few passed is =
       within = omega (arith, few_read, size);
       count = count;
       same = same;
-      all = ap (list_all pass) (sym same ∙ ap (λ n. take n row) (sym count)) ∙ prefix_passes pass row;
+      all = ap (list_all is_symbol) (sym same ∙ ap (λ n. take n row) (sym count)) ∙ prefix_passes is_symbol row;
     })
 
 -- so it is with what is left over of a text
-pub joins_left : (pass : ℕ → Bool) (s : left.LeftOver) (text row : List ℕ) {count : ℕ} → pass 0 ≡ false
-    → list_all pass (take s.pending s.symbols) ≡ true → length s.symbols ≡ 3
+pub joins_left : (s : left.LeftOver) (text row : List ℕ) {count : ℕ} → length s.symbols ≡ 3
     → row ≡ take s.pending s.symbols ++ take (16 - s.pending) (text ++ replicate 16 0)
-    → count ≡ prefix_len pass row → Joins pass (take s.pending s.symbols) text row (count - s.pending)
-joins_left pass s text row zero_fails passed three is count =
-    rw count (joins pass (take s.pending s.symbols) text row s.pending zero_fails
-    (length-take-le s.pending s.symbols (omega (arith, three, s.few_pending))) s.few_pending passed is)
+    → count ≡ prefix_len is_symbol row → Joins (take s.pending s.symbols) text row (count - s.pending)
+joins_left s text row three is count = rw count (joins (take s.pending s.symbols) text row s.pending
+    (length-take-le s.pending s.symbols (omega (arith, three, s.few_pending))) s.few_pending s.pending_symbols is)
 
--- if the text begins with an item that passes the test, it is read
-begins : (pass : ℕ → Bool) (text : List ℕ) (n : ℕ) → 1 ≤ length text → pass (get_or text 0 0) ≡ true
-    → 1 ≤ prefix_len pass (take (suc n) (text ++ replicate 16 0))
-begins pass [] n some h = absurd (omega arith)
-begins pass (c ∷ t) n some h = grind (arith, h)
+-- if the text begins with a symbol, it is read
+begins : (text : List ℕ) (n : ℕ) → 1 ≤ length text → is_symbol (get_or text 0 0) ≡ true
+    → 1 ≤ prefix_len is_symbol (take (suc n) (text ++ replicate 16 0))
+begins [] n some h = absurd (omega arith)
+begins (c ∷ t) n some h = grind (arith, h)
 
-pub some_read : (pass : ℕ → Bool) (s : left.LeftOver) (text row : List ℕ) {count : ℕ}
-    → list_all pass (take s.pending s.symbols) ≡ true → length s.symbols ≡ 3
+pub some_read : (s : left.LeftOver) (text row : List ℕ) {count : ℕ} → length s.symbols ≡ 3
     → row ≡ take s.pending s.symbols ++ take (16 - s.pending) (text ++ replicate 16 0)
-    → count ≡ prefix_len pass row → 1 ≤ length text → pass (get_or text 0 0) ≡ true
+    → count ≡ prefix_len is_symbol row → 1 ≤ length text → is_symbol (get_or text 0 0) ≡ true
     → 1 ≤ count - s.pending
-some_read pass s text row passed three is count some first =
+some_read s text row three is count some first =
     let q = take s.pending s.symbols in
     let rest = take (16 - s.pending) (text ++ replicate 16 0) in
     let one : 16 - s.pending ≡ suc (15 - s.pending) = omega (arith, s.few_pending) in
-    let more : 1 ≤ prefix_len pass rest = rw (sym one) at (begins pass text (15 - s.pending) some first) in
-    let all = ap (prefix_len pass) is ∙ prefix_after pass q rest passed in
+    let more : 1 ≤ prefix_len is_symbol rest = rw (sym one) at (begins text (15 - s.pending) some first) in
+    let all = ap (prefix_len is_symbol) is ∙ prefix_after q rest s.pending_symbols in
     omega (arith, count, all, more, length-take-le s.pending s.symbols (omega (arith, three, s.few_pending)))
 
 -- the first n items of a list are those of the largest multiple of four and the others
@@ -196,7 +190,7 @@ pub record Fronts (q text row bytes : List ℕ) (read count : ℕ) : Type 0 wher
   pub left : drop (count / 4 * 4) (take count row) ≡ after_groups (q ++ take read text)
 
 -- so it is after the first row
-pub fronts_first : {q text row bytes : List ℕ} (read count : ℕ) (decoded : List ℕ) → Joins is_symbol q text row read
+pub fronts_first : {q text row bytes : List ℕ} (read count : ℕ) (decoded : List ℕ) → Joins q text row read
     → count ≡ prefix_len is_symbol row → length row ≡ 16 → DecodesFront row decoded
     → bytes ≡ take (count / 4 * 3) decoded → Fronts q text row bytes read count
 fronts_first {q} {text} {row} read count decoded j ahead long decodes is =
@@ -221,8 +215,7 @@ fronts_more {q} {text} {row} {bytes} {more} {row'} read m decoded f sized row_is
     let rest = drop read text in
     let b = take m rest in
     let all : prefix_len is_symbol row' - 0 ≡ m = omega (arith, ahead) in
-    let j : Joins is_symbol [] rest row' m =
-    rw all at (joins is_symbol [] rest row' 0 refl refl (omega arith) refl row_is) in
+    let j : Joins [] rest row' m = rw all at (joins [] rest row' 0 refl (omega arith) refl row_is) in
     let g : Fronts [] rest row' (take (m / 4 * 3) decoded) m m = fronts_first m m decoded j ahead long decodes refl in
     let none : after_groups a ≡ [] =
     sym f.left ∙ nil_from_length (drop 16 (take 16 row)) (omega (
@@ -262,36 +255,12 @@ module _ {F : Type 0} (d d' : State F) (text row bytes : List ℕ) (read count :
       completes_spaced t t s none (symbols_alone t alone) (sym (filter_all is_symbol t (every_list_all t alone)))
       f.bytes_are closure (left ∙ f.left) padding going
 
-module _ {F : Type 0} (d d' : State F) (text row packed decoded : List ℕ) (end read count : ℕ)
-    (j : Joins is_symbol_or_space d.symbols text row read) (ends : end ≡ prefix_len is_symbol_or_space row)
-    (kept : filter is_symbol (take end row) ≡ take count packed) (long : length packed ≡ 16) (few : count ≤ 16)
-    (decodes : DecodesFront packed decoded) (s : IsSound d.symbols d.padding) (none : d.padding ≡ 0)
-    (closure : d'.closure ≡ d.closure) (left : d'.symbols ≡ drop (count / 4 * 4) (take count packed))
-    (padding : d'.padding ≡ 0) (going : d'.failed ≡ false) where
-  -- the symbols of a row are packed and read, and the bytes of their groups are held after others
-  pub gains_packed : {held more : List ℕ} → 1 ≤ read → more ≡ held ++ take (count / 4 * 3) decoded
-      → Gains d held text read d' more
-  gains_packed some is =
-      let q = d.symbols in
-      let t = take read text in
-      let k = filter is_symbol t in
-      let parts = and_parts (list_all is_symbol_or_space q) (list_all is_symbol_or_space t)
-      (sym (list_all-append is_symbol_or_space q t) ∙ j.all) in
-      let all : list_all is_symbol (take count packed) ≡ true =
-      ap (list_all is_symbol) (sym kept) ∙ symbols_kept (take end row) in
-      let front = ap (λ n. take n row) (ends ∙ j.count) in
-      let same : take count packed ≡ q ++ k =
-      cc (kept, front, j.same, filter-append is_symbol q t, filter_all is_symbol q s.every) in
-      record {
-        some = some;
-        within = j.within;
-        more = take (count / 4 * 3) decoded;
-        completes = completes_spaced t k s none parts.1 refl
-            (decoded_groups packed decoded count long few all decodes ∙ ap (λ x. groups (map symbol_value x)) same)
-            closure (left ∙ cc (
-              after_is (take count packed),
-              length-take-le count packed (omega (arith, few, long)),
-              same,
-            )) padding going;
-        held_are = is;
-      }
+  -- their bytes are held after others
+  pub gains_front : {held more : List ℕ} → 1 ≤ read → more ≡ held ++ bytes → Gains d held text read d' more
+  gains_front some is = record {
+    some = some;
+    within = f.within;
+    more = bytes;
+    completes = completes_front;
+    held_are = is;
+  }

@@ -76,22 +76,6 @@ pub(crate) fn row_over_gap(text: &[u8]) -> Option<(u8x16, usize)>
     Some((symbols, spaces))
 }
 
-/// Packs the symbols among the first `end` bytes of a row. Returns a row that begins with them, and their number.
-#[inline(always)]
-pub(crate) fn pack_front(bytes: u8x16, end: usize) -> (u8x16, usize)
-    requires { end ≤ 16 }
-    ensures few { result.1 ≤ 16 }
-    ensures symbols { filter is_symbol (take end bytes) ≡ take result.1 result.0 }
-{
-    if symbols_ahead(bytes) == end {
-        return (bytes, end);
-    }
-    let mut symbols = [0; 48];
-    let front = spliced(bytes, u8x16::splat(0), end);
-    let count = pack_row(front, non_symbols(front) as usize, &mut symbols, 0);
-    (row(&symbols, 0), count)
-}
-
 /// Packs the symbols of the rows that a text begins with. It ends before a row with a byte that is neither a symbol nor
 /// white space, or after the row with which there are at least `enough` symbols. Returns how many symbols are packed,
 /// and how many bytes the rows have.

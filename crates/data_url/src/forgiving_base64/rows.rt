@@ -7,10 +7,8 @@ ghost use Rattle.std.specs.List.{list_all};
 ghost use Rattle.data_url.specs.Base64.{is_symbol};
 
 use super::InvalidBase64Details;
-use super::alphabet::{decode_row, is_of_symbols, is_symbol, spaced_ahead, symbols_ahead};
-use super::gaps::{
-    before_partial, decode_unit, pack_front, pack_rows, row_over_gap, spaces_after_twelve,
-};
+use super::alphabet::{decode_row, is_of_symbols, is_symbol, symbols_ahead};
+use super::gaps::{before_partial, decode_unit, pack_rows, row_over_gap, spaces_after_twelve};
 use super::held::{FULL, HeldGroups};
 use super::left_over::LeftOver;
 use crate::classes::lanes::{BLOCK, ROW, first_row, put, repeated, rotated, row, spliced};
@@ -162,11 +160,10 @@ impl LeftOver {
         (read, len + count / 4 * 3)
     }
 
-    /// Reads the symbol that a text begins with, and the symbols and the white space after it, as many bytes as have
-    /// room in a row after the symbols left over. Adds the bytes of the groups that are complete then. Returns how many
-    /// bytes of the text were read.
+    /// Reads the symbols that a text begins with, as many as have room in a row after those left over. Adds the bytes
+    /// of the groups that are complete then. Returns how many symbols were read.
     #[inline(always)]
-    fn read_row(&mut self, text: &[u8], groups: &mut HeldGroups) -> usize
+    fn read_symbols(&mut self, text: &[u8], groups: &mut HeldGroups) -> usize
         requires some { (1 ≤ length text.now) × IsTrue (is_symbol (slice_index text.now 0)) }
         requires no_padding { self.old.padding ≡ 0 }
         requires room { groups.old.len < 192 }
@@ -174,18 +171,17 @@ impl LeftOver {
             (left_state self.new) (held_bytes groups.new) }
     {
         let row = self.row_with(text);
-        let end = spaced_ahead(row);
-        let (symbols, count) = pack_front(row, end);
-        put(&mut groups.bytes, groups.len, decode_row(symbols));
+        let count = symbols_ahead(row);
+        put(&mut groups.bytes, groups.len, decode_row(row));
         groups.len += count / 4 * 3;
-        let read = end - self.pending;
-        self.keep_after_groups(symbols, count);
+        let read = count - self.pending;
+        self.keep_after_groups(row, count);
         read
     }
 
-    /// Reads whole groups, or a row of symbols and white space, or one other byte that a text begins with, after what
-    /// is left over of the text before. Adds the bytes of the groups that are complete then. Returns how many bytes of
-    /// the text were read, or the kind of the fault if the first byte is one.
+    /// Reads whole groups, or symbols, or one other byte that a text begins with, after what is left over of the text
+    /// before. Adds the bytes of the groups that are complete then. Returns how many bytes of the text were read, or
+    /// the kind of the fault if the first byte is one.
     #[inline(always)]
     pub(super) fn read_groups_or_byte(
         &mut self,
@@ -216,7 +212,7 @@ impl LeftOver {
         } else if self.padding > 0 {
             return Err(InvalidBase64Details::AlphabetSymbolAfterPadding);
         } else {
-            return Ok(self.read_row(text, groups));
+            return Ok(self.read_symbols(text, groups));
         }
         Ok(1)
     }
