@@ -144,6 +144,17 @@ fn push_base64(table: &mut Table) {
             base64(numbers, len, lines)
         });
     }
+    for (len, least, most) in [(30, 1, 3), (30, 4, 8), (50, 9, 15), (50, 16, 28)] {
+        table.push_feed(&format!("{len} in lines {least}-{most}"), move |numbers| {
+            let first = least + numbers.below(most - least + 1);
+            base64(numbers, len, Lines::mixed(least, most, "\n").after(first))
+        });
+    }
+    for width in [64, 76] {
+        table.push_feed(&format!("100 in lines of {width}"), move |numbers| {
+            base64(numbers, 100, Lines::of(width, "\n"))
+        });
+    }
     for (len, size) in SIZES {
         for (kind, lines) in [("clean", Lines::NONE), ("lines 76", Lines::of(76, "\n"))] {
             table.push_feed(&format!("{kind} {size}"), move |numbers| {

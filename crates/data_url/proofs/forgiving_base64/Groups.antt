@@ -1,6 +1,6 @@
 -- Groups of four symbols, and texts that are fed in two parts.
 use Rattle.std.proofs.Common.{sym, take, drop, refl, ap, ap₂, arith, length-take, get_or-take, take-append-drop}
-use Rattle.std.proofs.Common.{append-nil, take-take, take_at, drop-drop, length-drop, length-take-le, ◌∙◌, false, min}
+use Rattle.std.proofs.Common.{append-nil, take-take, drop-drop, length-drop, length-take-le, ◌∙◌, false, min}
 use Rattle.std.proofs.Common.{None, take-add, append_assoc, length-append, ◌/◌, ◌≡◌, ℕ, Bool, ◌+◌, ◌*◌, ◌≤◌, true, ◌&&◌}
 use Rattle.std.proofs.Common.{◌||◌, List, [], ◌∷◌, ◌++◌, map, length, ◌-◌, replicate, zero, suc}
 use Rattle.std.{proofs.Math.Seq.{take-append-add}, proofs.lemmas.Bool.{and_parts}, proofs.lemmas.List.{length-map}}
@@ -256,19 +256,12 @@ row_leaves_at text old new bytes row at n m k before room put decodes long is fe
     (row_leaves old new bytes row n m (4 * m + k) before room put decodes few
     (row_long rest is (omega (arith, length-drop at text))) (front_symbols row rest m k front all spaces))
 
--- a text with zeros after it begins with no more symbols than it has bytes
-pub symbols_end : (text : List ℕ) (after : ℕ) → prefix_len is_symbol (text ++ replicate after 0) ≤ length text
-symbols_end [] zero = omega arith
-symbols_end [] (suc after) = omega arith
-symbols_end (b ∷ text) after = grind (arith, symbols_end text after)
-
--- all that was read
-pub leaves_read : {held text rest held' : List ℕ} → Leaves held text rest held'
-    → (length rest ≤ length text) × AddsGroups held (take (length text - length rest) text) held'
-leaves_read {text = text} {rest = rest} l =
-    let size = ap length l.text_is ∙ length-append l.front rest in
-    let n : length text - length rest ≡ length l.front = omega (arith, size) in
-    (omega (arith, size), rw (n, l.text_is, take_at l.front rest (length l.front) refl) l.added)
+-- a text with zeros after it begins with no more items that pass a test than it has, if zero does not pass it
+pub prefix_end : (p : ℕ → Bool) (text : List ℕ) (after : ℕ) → p 0 ≡ false
+    → prefix_len p (text ++ replicate after 0) ≤ length text
+prefix_end p [] zero zero_fails = omega arith
+prefix_end p [] (suc after) zero_fails = grind (arith, zero_fails)
+prefix_end p (b ∷ text) after zero_fails = grind (arith, prefix_end p text after zero_fails)
 
 -- A text that is fed in two parts.
 

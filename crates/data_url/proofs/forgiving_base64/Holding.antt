@@ -1,4 +1,6 @@
 -- Feeding while decoded bytes are held. For the functions of `Decoder` that feed.
+use Rattle.data_url.proofs.forgiving_base64.Steps.{completes_none, completes_space, completes_text, fault_space}
+use Rattle.data_url.proofs.forgiving_base64.Steps.{fault_symbol, feeds_then, has_pad, left_goes_on, one_call, told_call}
 use Rattle.std.proofs.Common.{Option, None, Some, is_some, Result, Ok, Err, refl, ap, sym, ◌∙◌, subst, arith}
 use Rattle.std.proofs.Common.{append_assoc, drop-drop, length-append, take-append-drop, append-nil, false, cond, min}
 use Rattle.std.proofs.Common.{◌&&◌, ◌||◌, List, [], ◌∷◌, ◌++◌, length, map, drop, get_or, take, take-add, get_or-drop}
@@ -20,10 +22,6 @@ use Rattle.data_url.specs.declared.forgiving_base64.held.HeldGroups.{HeldGroups}
 use Rattle.data_url.proofs.forgiving_base64.{Groups.{prefix_passes, symbols_alone}, Padding.{every_list_all}}
 use Rattle.data_url.proofs.forgiving_base64.Padding.{fault-append, fault_byte, fault_none, filter_all, is_pad, is_bad}
 use Rattle.data_url.proofs.{forgiving_base64.Padding.{length-after_groups, passed}, forgiving_base64.Steps.{IsSound}}
-use Rattle.data_url.proofs.forgiving_base64.Steps.{completes_none, completes_space, completes_text, fault_space}
-use Rattle.data_url.proofs.forgiving_base64.Steps.{fault_symbol}
-use Rattle.data_url.proofs.forgiving_base64.Steps.{feeds_then, has_pad}
-use Rattle.data_url.proofs.forgiving_base64.Steps.{left_goes_on, one_call, told_call}
 use Rattle.data_url.proofs.runs.Runs.{joined_pieces-append, match_at, match_none, refusal-append, run-append}
 
 -- A text of symbols and white space has no fault and no padding
@@ -384,26 +382,24 @@ module _ {F E : Type 0} (step : F → List ℕ → Result (Unit {0}) E → F →
   reads_on s at n r a = rw (sym (taken_more s at n)) (reads_both r a)
 
   -- a text is read, and then white space
-  reads_spaces : {d d1 : State F} (t u : List ℕ) → list_all is_ascii_whitespace u ≡ true → IsSound d1.symbols d1.padding
-      → ReadsHolding step d t [] d1 → ReadsHolding step d (t ++ u) [] d1
+  reads_spaces : {d d1 : State F} {held : List ℕ} (t u : List ℕ) → list_all is_ascii_whitespace u ≡ true
+      → IsSound d1.symbols d1.padding → ReadsHolding step d t held d1 → ReadsHolding step d (t ++ u) held d1
   reads_spaces t [] all s r = rw (append-nil t) r
-  reads_spaces {d} {d1} t (c ∷ u) all s r =
+  reads_spaces {d} {d1} {held} t (c ∷ u) all s r =
       let p = and_parts (is_ascii_whitespace c) (list_all is_ascii_whitespace u) all in
-      subst (λ x. ReadsHolding step d x [] d1) (append_assoc t (c ∷ []) u)
-      (reads_spaces (t ++ c ∷ []) u p.1 s (reads_then r (completes_space c s p.0 r.going)))
+      let next = reads_then r (completes_space c s p.0 r.going) in
+      subst (λ x. ReadsHolding step d x held d1) (append_assoc t (c ∷ []) u)
+      (reads_spaces (t ++ c ∷ []) u p.1 s (rw (append-nil held) at next))
 
   -- the first `at` bytes of a text are read, and then the white space that follows
-  pub reads_on_spaces : {d d1 : State F} (s : List ℕ) (at k : ℕ) → IsSound d1.symbols d1.padding
-      → (at ≤ length s) × ReadsHolding step d (take at s) [] d1 → k ≤ length (take (length s - at) (drop at s))
-      → k ≡ prefix_len is_ascii_whitespace (take (length s - at) (drop at s))
-      → (at + k ≤ length s) × ReadsHolding step d (take (at + k) s) [] d1
-  reads_on_spaces s at k sound r within is =
+  pub reads_on_spaces : {d d1 : State F} {held : List ℕ} (s : List ℕ) (at k : ℕ) → IsSound d1.symbols d1.padding
+      → ReadsHolding step d (take at s) held d1 → k ≡ prefix_len is_ascii_whitespace (take (length s - at) (drop at s))
+      → ReadsHolding step d (take (at + k) s) held d1
+  reads_on_spaces s at k sound r is =
       let rest = take (length s - at) (drop at s) in
       let all : list_all is_ascii_whitespace (take k rest) ≡ true =
-      ap (λ n. list_all is_ascii_whitespace (take n rest)) is ∙ prefix_passes is_ascii_whitespace rest in (
-        omega (arith, r.0, within, ap length (take_rest s at), length-drop at s),
-        rw (sym (taken_more s at k)) (reads_spaces (take at s) (take k rest) all sound r.1),
-      )
+      ap (λ n. list_all is_ascii_whitespace (take n rest)) is ∙ prefix_passes is_ascii_whitespace rest in
+      rw (sym (taken_more s at k)) (reads_spaces (take at s) (take k rest) all sound r)
 
   -- the first `at` bytes of a text are read, and an error of the closure ends the feeding of the others
   pub ends_on : {d d1 d2 : State F} {x : DecodeError E} (s : List ℕ) (at : ℕ) → at ≤ length s

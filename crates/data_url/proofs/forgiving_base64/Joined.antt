@@ -1,9 +1,9 @@
 -- The symbols that are left over, and then those that a text begins with, in one row. For `row_with`, and for what
 -- reads such rows.
-use Rattle.std.proofs.Common.{append_assoc, List, [], ◌∷◌, ap, append-nil, arith, drop, false, get_or, length}
-use Rattle.std.proofs.Common.{length-drop, length-take, length-take-le, map, refl, replicate, suc, sym, take, take-add}
-use Rattle.std.proofs.Common.{take-take, true, zero, ℕ, ◌%◌, ◌*◌, ◌++◌, ◌+◌, ◌-◌, ◌/◌}
-use Rattle.std.proofs.Common.{◌∙◌, ◌≡◌, ◌≤◌}
+use Rattle.std.proofs.Common.{append_assoc, Bool, filter, List, [], ◌∷◌, ap, append-nil, arith, drop, false, get_or}
+use Rattle.std.proofs.Common.{length, length-append, length-drop, length-take, length-take-le, map, refl, replicate}
+use Rattle.std.proofs.Common.{suc, sym, take}
+use Rattle.std.proofs.Common.{take-add, take-take, true, zero, ℕ, ◌%◌, ◌*◌, ◌++◌, ◌+◌, ◌-◌, ◌/◌, ◌∙◌, ◌≡◌, ◌≤◌}
 use Rattle.std.proofs.Math.Seq.{drop-append-add, take-append-add}
 use Rattle.std.proofs.lemmas.Bool.{and_parts}
 use Rattle.std.proofs.lemmas.List.{drop-take, length-map, map-append, nil_from_length, take-append-le}
@@ -13,8 +13,9 @@ use Rattle.std.specs.List.{list_all, prefix_len}
 use Rattle.data_url.specs.Base64.{after_groups, groups, is_symbol, symbol_value}
 use Rattle.data_url.specs.declared.forgiving_base64.left_over.LeftOver as left
 use Rattle.data_url.specs.{Decoder.{State}, Steps.Holding.{Completes, Gains}, Steps.Lanes.{DecodesFront}}
+use Rattle.data_url.specs.Steps.Groups.{is_symbol_or_space}
 use Rattle.data_url.proofs.classes.FirstRows.{padded_front}
-use Rattle.data_url.proofs.forgiving_base64.Groups.{prefix_passes, symbols_alone, symbols_end}
+use Rattle.data_url.proofs.forgiving_base64.Groups.{prefix_end, prefix_passes, symbols_alone, symbols_kept}
 use Rattle.data_url.proofs.forgiving_base64.Holding.{completes_spaced}
 use Rattle.data_url.proofs.forgiving_base64.Padding.{after_groups-append, after_is, every_list_all, filter_all}
 use Rattle.data_url.proofs.forgiving_base64.Padding.{length-after_groups}
@@ -48,32 +49,34 @@ pub joined_none : (symbols text : List ℕ) {p : ℕ} → p ≡ 0
     → take 16 (text ++ replicate 16 0) ≡ take p symbols ++ take (16 - p) (text ++ replicate 16 0)
 joined_none symbols text e = rw e refl
 
--- the row begins with the symbols left over and then with `read` symbols of the text, and no more
-pub record Joins (q text row : List ℕ) (read : ℕ) : Type 0 where
+-- the row begins with the symbols left over and then with `read` bytes of the text that pass a test, and no more
+pub record Joins (pass : ℕ → Bool) (q text row : List ℕ) (read : ℕ) : Type 0 where
   pub within : read ≤ length text
-  pub count : prefix_len is_symbol row ≡ length q + read
+  pub count : prefix_len pass row ≡ length q + read
   pub same : take (length q + read) row ≡ q ++ take read text
-  pub all : list_all is_symbol (q ++ take read text) ≡ true
+  pub all : list_all pass (q ++ take read text) ≡ true
 
 -- if all items of a list pass, so do those that another one begins with after it
-prefix_after : (q s : List ℕ) → list_all is_symbol q ≡ true
-    → prefix_len is_symbol (q ++ s) ≡ length q + prefix_len is_symbol s
-prefix_after [] s h = omega arith
-prefix_after (x ∷ q) s h =
-    let p = and_parts (is_symbol x) (list_all is_symbol q) h in grind (arith, prefix_after q s p.1)
+prefix_after : (pass : ℕ → Bool) (q s : List ℕ) → list_all pass q ≡ true
+    → prefix_len pass (q ++ s) ≡ length q + prefix_len pass s
+prefix_after pass [] s h = omega arith
+prefix_after pass (x ∷ q) s h =
+    let p = and_parts (pass x) (list_all pass q) h in grind (arith, prefix_after pass q s p.1)
 
--- such a row begins with the symbols left over and then with those of the text
-joins : (q text row : List ℕ) (p : ℕ) → length q ≡ p → p ≤ 3 → list_all is_symbol q ≡ true
-    → row ≡ q ++ take (16 - p) (text ++ replicate 16 0) → Joins q text row (prefix_len is_symbol row - p)
-joins q text row p long few symbols is =
+-- such a row begins with the symbols left over and then with bytes of the text that pass
+joins : (pass : ℕ → Bool) (q text row : List ℕ) (p : ℕ) → pass 0 ≡ false → length q ≡ p → p ≤ 3
+    → list_all pass q ≡ true → row ≡ q ++ take (16 - p) (text ++ replicate 16 0)
+    → Joins pass q text row (prefix_len pass row - p)
+joins pass q text row p zero_fails long few passed is =
     let s = take (16 - p) (text ++ replicate 16 0) in
-    let read = prefix_len is_symbol s in
-    let count : prefix_len is_symbol row ≡ length q + read = ap (prefix_len is_symbol) is ∙ prefix_after q s symbols in
-    let read_is : prefix_len is_symbol row - p ≡ read = omega (arith, count, long) in
+    let read = prefix_len pass s in
+    let count : prefix_len pass row ≡ length q + read = ap (prefix_len pass) is ∙ prefix_after pass q s passed in
+    let read_is : prefix_len pass row - p ≡ read = omega (arith, count, long) in
     let front = take (16 - p) text in
     let zeros : List ℕ = replicate (16 - p - length text) 0 in
     let s_is : s ≡ front ++ zeros = padded_front text (16 - p) (omega arith) in
-    let few_read : read ≤ length front = rw (sym s_is) at (symbols_end front (16 - p - length text)) in
+    let few_read : read ≤ length front =
+    rw (sym s_is) at (prefix_end pass front (16 - p - length text) zero_fails) in
     let size = length-take (16 - p) text in
     let same : take (length q + read) row ≡ q ++ take read text =
     ap (take (length q + read)) is ∙ take-append-add q s read
@@ -83,21 +86,30 @@ joins q text row p long few symbols is =
       within = omega (arith, few_read, size);
       count = count;
       same = same;
-      all = ap (list_all is_symbol) (sym same ∙ ap (λ n. take n row) (sym count)) ∙ prefix_passes is_symbol row;
+      all = ap (list_all pass) (sym same ∙ ap (λ n. take n row) (sym count)) ∙ prefix_passes pass row;
     })
 
 -- so it is with what is left over of a text
-pub joins_left : (s : left.LeftOver) (text row : List ℕ) {count : ℕ} → length s.symbols ≡ 3
+pub joins_left : (pass : ℕ → Bool) (s : left.LeftOver) (text row : List ℕ) {count : ℕ} → pass 0 ≡ false
+    → list_all pass (take s.pending s.symbols) ≡ true → length s.symbols ≡ 3
     → row ≡ take s.pending s.symbols ++ take (16 - s.pending) (text ++ replicate 16 0)
-    → count ≡ prefix_len is_symbol row → Joins (take s.pending s.symbols) text row (count - s.pending)
-joins_left s text row three is count = rw count (joins (take s.pending s.symbols) text row s.pending
-    (length-take-le s.pending s.symbols (omega (arith, three, s.few_pending))) s.few_pending s.pending_symbols is)
+    → count ≡ prefix_len pass row → Joins pass (take s.pending s.symbols) text row (count - s.pending)
+joins_left pass s text row zero_fails passed three is count =
+    rw count (joins pass (take s.pending s.symbols) text row s.pending zero_fails
+    (length-take-le s.pending s.symbols (omega (arith, three, s.few_pending))) s.few_pending passed is)
 
--- if the text begins with a symbol, it is read
-begins : (text : List ℕ) (n : ℕ) → 1 ≤ length text → is_symbol (get_or text 0 0) ≡ true
-    → 1 ≤ prefix_len is_symbol (take (suc n) (text ++ replicate 16 0))
-begins [] n some h = absurd (omega arith)
-begins (c ∷ t) n some h = grind (arith, h)
+-- if the text begins with an item that passes the test, it is read
+begins : (pass : ℕ → Bool) (text : List ℕ) (n : ℕ) → 1 ≤ length text → pass (get_or text 0 0) ≡ true
+    → 1 ≤ prefix_len pass (take (suc n) (text ++ replicate 16 0))
+begins pass [] n some h = absurd (omega arith)
+begins pass (c ∷ t) n some h = grind (arith, h)
+
+pub some_after : (pass : ℕ → Bool) (text row : List ℕ) (at : ℕ) {end : ℕ}
+    → row ≡ take 16 (drop at text ++ replicate 16 0) → end ≡ prefix_len pass row → 1 ≤ length text
+    → pass (get_or text 0 0) ≡ true → 1 ≤ at + end
+some_after pass text row zero is ends some first =
+    omega (arith, ends, ap (prefix_len pass) is, begins pass text 15 some first)
+some_after pass text row (suc at) is ends some first = omega arith
 
 pub some_read : (s : left.LeftOver) (text row : List ℕ) {count : ℕ} → length s.symbols ≡ 3
     → row ≡ take s.pending s.symbols ++ take (16 - s.pending) (text ++ replicate 16 0)
@@ -107,9 +119,26 @@ some_read s text row three is count some first =
     let q = take s.pending s.symbols in
     let rest = take (16 - s.pending) (text ++ replicate 16 0) in
     let one : 16 - s.pending ≡ suc (15 - s.pending) = omega (arith, s.few_pending) in
-    let more : 1 ≤ prefix_len is_symbol rest = rw (sym one) at (begins text (15 - s.pending) some first) in
-    let all = ap (prefix_len is_symbol) is ∙ prefix_after q rest s.pending_symbols in
+    let more : 1 ≤ prefix_len is_symbol rest = rw (sym one) at (begins is_symbol text (15 - s.pending) some first) in
+    let all = ap (prefix_len is_symbol) is ∙ prefix_after is_symbol q rest s.pending_symbols in
     omega (arith, count, all, more, length-take-le s.pending s.symbols (omega (arith, three, s.few_pending)))
+
+-- after `at` bytes of a text that pass, so do those that a row of what follows begins with
+pub all_after : (pass : ℕ → Bool) (text row : List ℕ) (at : ℕ) {end : ℕ} → pass 0 ≡ false
+    → row ≡ take 16 (drop at text ++ replicate 16 0) → end ≡ prefix_len pass row → at ≤ length text
+    → list_all pass (take at text) ≡ true
+    → (at + end ≤ length text) × ((list_all pass (take (at + end) text) ≡ true)
+    × (take end row ≡ take end (drop at text)))
+all_after pass text row at {end} zero_fails is ends within before =
+    let rest = drop at text in
+    let all : prefix_len pass row - 0 ≡ end = omega (arith, ends) in
+    let j : Joins pass [] rest row end = rw all at (joins pass [] rest row 0 zero_fails refl (omega arith) refl is) in (
+      omega (arith, j.within, length-drop at text, within),
+      (
+        cc (take-add at end text, list_all-append pass (take at text) (take end rest), before, j.all),
+        ap (λ k. take k row) (omega arith) ∙ j.same,
+      ),
+    )
 
 -- the first n items of a list are those of the largest multiple of four and the others
 cut : (s : List ℕ) (n : ℕ) → take n s ≡ take (n / 4 * 4) s ++ take (n % 4) (drop (n / 4 * 4) s)
@@ -158,27 +187,31 @@ pub left_are_symbols : (row : List ℕ) (n : ℕ) → list_all is_symbol (take n
     → list_all is_symbol (drop (n / 4 * 4) (take n row)) ≡ true
 left_are_symbols row n all = (cut_symbols row n all).1
 
--- the bytes of the groups that a row begins with
-decoded_groups : (row bytes : List ℕ) (n : ℕ) → length row ≡ 16 → n ≤ 16 → list_all is_symbol (take n row) ≡ true
-    → DecodesFront row bytes → take (n / 4 * 3) bytes ≡ groups (map symbol_value (take n row))
-decoded_groups row bytes n long within all decodes =
+-- the groups of n items are those of the largest multiple of four
+groups_cut : (s : List ℕ) (n : ℕ) → n ≤ length s
+    → groups (map symbol_value (take (n / 4 * 4) s)) ≡ groups (map symbol_value (take n s))
+groups_cut s n within =
     let w = n / 4 * 4 in
-    let x = take w row in
-    let y = take (n % 4) (drop w row) in
-    let four : 4 * (n / 4) ≡ w = omega arith in
-    let three : 3 * (n / 4) ≡ n / 4 * 3 = omega arith in
-    let front : take (n / 4 * 3) bytes ≡ groups (map symbol_value x) =
-    rw (four, three) at (decodes (n / 4) (omega arith)) (cut_symbols row n all).0 in
-    let size : length x ≡ w = length-take-le w row (omega (arith, long)) in
-    let short : length y ≤ 3 = omega (arith, length-take (n % 4) (drop w row)) in
+    let x = take w s in
+    let y = take (n % 4) (drop w s) in
+    let size : length x ≡ w = length-take-le w s (omega (arith, within)) in
+    let short : length y ≤ 3 = omega (arith, length-take (n % 4) (drop w s)) in
     cc (
-      front,
-      cut row n,
+      cut s n,
       map-append symbol_value x y,
       groups_whole (map symbol_value x) (map symbol_value y) (omega (arith, length-map x symbol_value, size)),
       groups_few (map symbol_value y) (omega (arith, length-map y symbol_value, short)),
       append-nil (groups (map symbol_value x)),
     )
+
+-- the bytes of the groups that a row begins with
+decoded_groups : (row bytes : List ℕ) (n : ℕ) → length row ≡ 16 → n ≤ 16 → list_all is_symbol (take n row) ≡ true
+    → DecodesFront row bytes → take (n / 4 * 3) bytes ≡ groups (map symbol_value (take n row))
+decoded_groups row bytes n long within all decodes =
+    let four : 4 * (n / 4) ≡ n / 4 * 4 = omega arith in
+    let three : 3 * (n / 4) ≡ n / 4 * 3 = omega arith in
+    rw (four, three) at (decodes (n / 4) (omega arith)) (cut_symbols row n all).0
+    ∙ groups_cut row n (omega (arith, long, within))
 
 -- the symbols q and the first `read` bytes of a text are symbols, of which a row has the last `count`; these bytes are
 -- those of their groups, and the row has what is left over
@@ -190,7 +223,7 @@ pub record Fronts (q text row bytes : List ℕ) (read count : ℕ) : Type 0 wher
   pub left : drop (count / 4 * 4) (take count row) ≡ after_groups (q ++ take read text)
 
 -- so it is after the first row
-pub fronts_first : {q text row bytes : List ℕ} (read count : ℕ) (decoded : List ℕ) → Joins q text row read
+pub fronts_first : {q text row bytes : List ℕ} (read count : ℕ) (decoded : List ℕ) → Joins is_symbol q text row read
     → count ≡ prefix_len is_symbol row → length row ≡ 16 → DecodesFront row decoded
     → bytes ≡ take (count / 4 * 3) decoded → Fronts q text row bytes read count
 fronts_first {q} {text} {row} read count decoded j ahead long decodes is =
@@ -215,7 +248,8 @@ fronts_more {q} {text} {row} {bytes} {more} {row'} read m decoded f sized row_is
     let rest = drop read text in
     let b = take m rest in
     let all : prefix_len is_symbol row' - 0 ≡ m = omega (arith, ahead) in
-    let j : Joins [] rest row' m = rw all at (joins [] rest row' 0 refl (omega arith) refl row_is) in
+    let j : Joins is_symbol [] rest row' m =
+    rw all at (joins is_symbol [] rest row' 0 refl refl (omega arith) refl row_is) in
     let g : Fronts [] rest row' (take (m / 4 * 3) decoded) m m = fronts_first m m decoded j ahead long decodes refl in
     let none : after_groups a ≡ [] =
     sym f.left ∙ nil_from_length (drop 16 (take 16 row)) (omega (
@@ -264,3 +298,72 @@ module _ {F : Type 0} (d d' : State F) (text row bytes : List ℕ) (read count :
     completes = completes_front;
     held_are = is;
   }
+
+-- symbols that are left over, copied to the start of a list, and those that are packed after them
+pub packed_after : (left copied zeros packed rest : List ℕ) (p n : ℕ) → p ≤ length left → copied ≡ left
+    → n ≤ length packed → take (p + n) (take p (copied ++ zeros) ++ (packed ++ rest)) ≡ take p left ++ take n packed
+packed_after left copied zeros packed rest p n few same within =
+    let front : take p (copied ++ zeros) ≡ take p left =
+    ap (λ t. take p (t ++ zeros)) same ∙ take-append-le p left zeros few in
+    let size : p + n ≡ length (take p left) + n = omega (arith, length-take-le p left few) in
+    ap (λ t. take (p + n) (t ++ (packed ++ rest))) front
+    ∙ ap (λ k. take k (take p left ++ (packed ++ rest))) size
+    ∙ take-append-add (take p left) (packed ++ rest) n
+    ∙ ap (λ t. take p left ++ t) (take-append-le n packed rest within)
+
+module _ (symbols row : List ℕ) (count : ℕ) (is : row ≡ take 16 (drop (count / 4 * 4) symbols)) where
+  -- the symbols after whole groups, in a row
+  pub left_in_row : take (count % 4) row ≡ drop (count / 4 * 4) (take count symbols)
+  left_in_row = cc (
+    is,
+    take-take (count % 4) 16 (drop (count / 4 * 4) symbols) (omega arith),
+    after_fours symbols count,
+  )
+
+module _ {F : Type 0} (d d' : State F) (text symbols row old new : List ℕ) (n read count : ℕ)
+    (same : take count symbols ≡ d.symbols ++ filter is_symbol (take read text))
+    (sized : count ≡ length d.symbols + length (filter is_symbol (take read text)))
+    (spaced : list_all is_symbol_or_space (take read text) ≡ true)
+    (decodes : (m : ℕ) → 4 * m ≤ count → list_all is_symbol (take (4 * m) symbols) ≡ true
+    → take (n + 3 * m) new ≡ take n old ++ groups (map symbol_value (take (4 * m) symbols)))
+    (is : row ≡ take 16 (drop (count / 4 * 4) symbols)) (s : IsSound d.symbols d.padding) where
+  all_symbols : list_all is_symbol (take count symbols) ≡ true
+  all_symbols =
+      let k = filter is_symbol (take read text) in
+      let left : list_all is_symbol d.symbols ≡ true =
+      ap (list_all is_symbol) (sym (filter_all is_symbol d.symbols s.every)) ∙ symbols_kept d.symbols in
+      cc (same, list_all-append is_symbol d.symbols k, left, symbols_kept (take read text))
+
+  -- the symbols after whole groups are kept
+  pub row_symbols_left : list_all is_symbol (take (count % 4) row) ≡ true
+  row_symbols_left =
+      ap (list_all is_symbol) (left_in_row symbols row count is) ∙ left_are_symbols symbols count all_symbols
+
+  -- symbols and white space are read, and the bytes of their groups are held after others
+  pub gains_spaced : 1 ≤ read → read ≤ length text → d.padding ≡ 0 → d'.closure ≡ d.closure
+      → d'.symbols ≡ drop (count % 4 / 4 * 4) (take (count % 4) row) → d'.padding ≡ 0 → d'.failed ≡ false
+      → Gains d (take n old) text read d' (take (n + count / 4 * 3) new)
+  gains_spaced some within none closure left padding going =
+      let k = filter is_symbol (take read text) in
+      let none_cut : count % 4 / 4 * 4 ≡ 0 = omega arith in
+      let four : 4 * (count / 4) ≡ count / 4 * 4 = omega arith in
+      let three : n + 3 * (count / 4) ≡ n + count / 4 * 3 = omega arith in
+      let all = rw (sym four) at (cut_symbols symbols count all_symbols).0 in
+      let bytes : take (n + count / 4 * 3) new
+      ≡ take n old ++ groups (map symbol_value (take (count / 4 * 4) symbols)) =
+      rw (four, three) at (decodes (count / 4) (omega arith) all) in
+      let long : count ≤ length symbols =
+      omega (arith, sized, ap length same, length-append d.symbols k, length-take count symbols) in
+      record {
+        some = some;
+        within = within;
+        more = groups (map symbol_value (d.symbols ++ k));
+        completes = completes_spaced (take read text) k s none spaced refl refl closure (left ∙ cc (
+          none_cut,
+          left_in_row symbols row count is,
+          after_is (take count symbols),
+          length-take-le count symbols long,
+          same,
+        )) padding going;
+        held_are = cc (bytes, groups_cut symbols count long, same);
+      }

@@ -1,10 +1,12 @@
--- Rows with gaps, and units of symbols with white space between them. For `gaps.rt`,
--- `symbols_ahead` and `decode_spaced_rows`.
-use Rattle.std.proofs.Common.{List, ◌++◌, map, ◌≡◌, ℕ, ◌<◌, ◌≤◌, ◌+◌, ◌*◌, ◌-◌, ◌/◌, ◌%◌, ◌^◌, true, false, cond}
+-- Rows with gaps, and units of symbols with white space between them. For `gaps.rt`, `symbols_ahead`, `spaced_ahead`
+-- and `decode_spaced_rows`.
+use Rattle.std.proofs.Common.{Bool, List, not, replicate, ◌++◌, map, ◌≡◌, ℕ, ◌<◌}
+use Rattle.std.proofs.Common.{◌≤◌, ◌+◌, ◌*◌, ◌-◌, ◌/◌, ◌%◌, ◌^◌, true, false, cond}
 use Rattle.std.proofs.Common.{get_or, ⊎_elim, length-take-le, length, take, drop, ap, sym, ◌∙◌, arith, take-take}
 use Rattle.std.proofs.Common.{take-append-drop, append_assoc, append-nil, take-add, take_at, suc, zero, refl, [], ◌∷◌}
 use Rattle.std.{proofs.Math.Seq.{take-append-add}, proofs.lemmas.Bool.{and_parts, cases_lt}}
-use Rattle.std.{proofs.lemmas.List.{length-map, map-append}, proofs.lemmas.List.Elements.{filter-append}}
+use Rattle.std.proofs.lemmas.List.{drop-replicate, length-map, map-append}
+use Rattle.std.{proofs.lemmas.List.Elements.{filter-append}}
 use Rattle.std.{proofs.lemmas.List.Filters.{length-filter_more}, proofs.lemmas.List.Folds.{list_all-append}}
 use Rattle.std.{proofs.lemmas.Simd.{mask_l-lt}, specs.Int.Count.{count_trailing_zeros}, specs.List.{filter, list_all}}
 use Rattle.std.{specs.List.{prefix_len}, specs.Simd.Lanes.{mask_l}}
@@ -12,39 +14,46 @@ use Rattle.data_url.specs.Base64.{groups, is_symbol, symbol_value}
 use Rattle.data_url.specs.Steps.Groups.{AddsGroups, clear, is_symbol_or_space}
 use Rattle.data_url.specs.Steps.Lanes.{DecodesFront}
 use Rattle.data_url.proofs.{forgiving_base64.Groups.{put_keeps, symbols_kept}, forgiving_base64.Spaces.{clear_mask}}
-use Rattle.data_url.proofs.forgiving_base64.Vectors.{groups_whole, is_other, others_mask}
+use Rattle.data_url.proofs.forgiving_base64.Vectors.{groups_whole, others_mask}
 
 -- Rows that are packed
 
--- the mask of a row has sixteen bits
-pub non_symbols_small : (v : List ℕ) {mask : ℕ} → length v ≡ 16 → mask ≡ others_mask v → mask < 65536
-non_symbols_small v {mask} long is =
-    let size : 2 ^ length (map is_other v) ≡ 65536 = ap (λ n. 2 ^ n) (length-map v is_other ∙ long) in
-    omega (arith, is, size, mask_l-lt (map is_other v))
+-- zeros are no symbols
+no_zeros : (n : ℕ) → filter is_symbol (replicate n 0) ≡ []
+no_zeros zero = refl
+no_zeros (suc n) = no_zeros n
 
--- the lowest bit of the mask is that of the first byte that is no symbol
-pub first_other : (k : ℕ) (v : List ℕ) → length v ≡ k
-    → count_trailing_zeros k (mask_l (map is_other v)) ≡ prefix_len is_symbol v
+-- the mask of a row has sixteen bits
+pub row_mask_small : (p : ℕ → Bool) (v : List ℕ) {mask : ℕ} → length v ≡ 16 → mask ≡ mask_l (map p v) → mask < 65536
+row_mask_small p v {mask} long is =
+    let size : 2 ^ length (map p v) ≡ 65536 = ap (λ n. 2 ^ n) (length-map v p ∙ long) in
+    omega (arith, is, size, mask_l-lt (map p v))
+
+-- the first bytes of a row, with zeros in place of the others, have the symbols of these bytes
+pub front_symbols_kept : (row front : List ℕ) (end : ℕ) {mask : ℕ} → front ≡ take end row ++ drop end (replicate 16 0)
+    → mask ≡ others_mask front → clear front mask ≡ filter is_symbol (take end row)
+front_symbols_kept row front end is mask =
+    let zeros = ap (filter is_symbol) (drop-replicate end 16 0) ∙ no_zeros (16 - end) in
+    let parts = filter-append is_symbol (take end row) (drop end (replicate 16 0)) in
+    cc (mask, clear_mask front, is, parts, zeros, append-nil (filter is_symbol (take end row)))
+
+-- the lowest bit of the mask of the items that do not pass a test is that of the first of them
+pub first_other : (p : ℕ → Bool) (k : ℕ) (v : List ℕ) → length v ≡ k
+    → count_trailing_zeros k (mask_l (map (λ b. not (p b)) v)) ≡ prefix_len p v
 unfolding count_trailing_zeros
-first_other zero [] e = refl
-first_other zero (x ∷ v) e = absurd (omega arith)
-first_other (suc k) [] e = absurd (omega arith)
-first_other (suc k) (x ∷ v) e = grind (arith, first_other k v)
+first_other p zero [] e = refl
+first_other p zero (x ∷ v) e = absurd (omega arith)
+first_other p (suc k) [] e = absurd (omega arith)
+first_other p (suc k) (x ∷ v) e = grind (arith, first_other p k v)
 
 -- the symbols of one row more are packed
 pub row_symbols : (text old new v : List ℕ) (have at next : ℕ) {mask : ℕ} → filter is_symbol (take at text) ≡ take
     have old
     → v ≡ take 16 (drop at text) → mask ≡ others_mask v → take next new ≡ take have old ++ clear v mask
     → filter is_symbol (take (at + 16) text) ≡ take next new
-row_symbols text old new v have at next before is mask packed = cc (
-  take-add at 16 text,
-  filter-append is_symbol (take at text) (take 16 (drop at text)),
-  before,
-  is,
-  mask,
-  clear_mask v,
-  packed,
-)
+row_symbols text old new v have at next before is mask packed =
+    let parts = filter-append is_symbol (take at text) (take 16 (drop at text)) in
+    cc (take-add at 16 text, parts, before, is, mask, clear_mask v, packed)
 
 -- one row more has only symbols and white space
 pub row_spaced : (text v : List ℕ) (at : ℕ) → list_all is_symbol_or_space (take at text) ≡ true

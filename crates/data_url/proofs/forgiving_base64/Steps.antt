@@ -3,11 +3,10 @@ use Rattle.std.proofs.Common.{append_assoc, MatchOption, MatchBool, MatchResult,
 use Rattle.std.proofs.Common.{◌∷◌, ◌++◌, length, map, min, replicate, None, Some, Result, Ok, Err, refl, ap, ap₂, sym}
 use Rattle.std.proofs.Common.{◌≡◌, ℕ, suc, zero, ◌+◌, ◌%◌, ◌≤◌, Bool, true, false, cond, eqb, get_or, take, List, []}
 use Rattle.std.proofs.Common.{◌≢◌, ◌⊎◌, inl, inr, ◌∙◌, subst, arith, length-append, length-take, drop, Option}
-use Rattle.std.proofs.{Common.{◌<◌}, lemmas.List.Sums.{AllPass-from_list_all}}
-use Rattle.std.{proofs.lemmas.Bool.{false≢true, true≢false}, specs.List.{filter, list_all, list_any}}
+use Rattle.std.{proofs.lemmas.Bool.{false≢true, true≢false}, specs.List.{filter, list_any}}
 use Rattle.std.specs.Result.{result_err}
 use Rattle.std.{proofs.lemmas.List.Elements.{filter-append}, specs.Char.{is_ascii_whitespace}, specs.Option.{option_or}}
-use Rattle.std.proofs.lemmas.List.{get_or-take, length-map, length-replicate, nil_from_length}
+use Rattle.std.proofs.lemmas.List.{length-map, length-replicate, nil_from_length}
 use Rattle.data_url.specs.Base64.{after_groups, decoded, complete_bytes, first_fault, group_bytes, group_number, groups}
 use Rattle.data_url.specs.Base64.{is_symbol, is_valid, kind_of, left_padding, left_symbols, left_text, rest_bytes}
 use Rattle.data_url.specs.{Base64.{symbol_value, values}, Mime.{Every}, Run.{IsRun, IsPrefix, joined_pieces, refusal}}
@@ -154,13 +153,6 @@ has_pad_some zero h = absurd (omega arith)
 has_pad_some (suc p) h = refl
 
 -- Groups of four and what is left over, written out
-
--- each of the symbols that are kept is a symbol
-pub kept_symbol : (s : List ℕ) (n i : ℕ) → i < n → n ≤ length s → list_all is_symbol (take n s) ≡ true
-    → is_symbol (get_or s i 0) ≡ true
-kept_symbol s n i l w a =
-    sym (ap is_symbol (get_or-take n s i 0 l))
-    ∙ AllPass-from_list_all is_symbol (take n s) a i 0 (omega (arith, length-take n s))
 
 -- the byte of two symbols left over is the first byte of the group that they begin
 pub decoded_two : (s : List ℕ) (n p : ℕ) → n ≡ 2 → length s ≡ 3 → Every is_symbol (take n s)

@@ -88,6 +88,15 @@ pub(crate) fn symbols_ahead(bytes: u8x16) -> usize
     (non_symbols(bytes) as u16).trailing_zeros() as usize
 }
 
+/// Returns how many bytes that are symbols or white space a row begins with.
+#[inline(always)]
+pub(crate) fn spaced_ahead(bytes: u8x16) -> usize
+    ensures few { result ≤ 16 }
+    ensures starts { result ≡ prefix_len is_symbol_or_space bytes }
+{
+    (outside(&SPACED, bytes) as u16).trailing_zeros() as usize
+}
+
 /// Whether all bytes of a block are symbols.
 #[inline(always)]
 pub(crate) fn is_of_symbols(bytes: u8x64) -> bool

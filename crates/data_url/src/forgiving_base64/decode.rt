@@ -2,7 +2,7 @@
 
 ghost use Rattle.std.specs.Prelude.{◌≡◌, ◌%◌, ◌≤◌, Err, length, true, false};
 
-use super::alphabet::{decode_block, group_of, is_of_symbols, is_symbol};
+use super::alphabet::{decode_block, group_of, is_of_symbols};
 use super::gaps::spaces_len;
 use super::held::{FULL, HeldGroups};
 use super::left_over::LeftOver;
@@ -162,63 +162,37 @@ where
         Ok(at)
     }
 
-    /// Calls the closure with the bytes of the groups that the symbols at the start of a text complete. It reads up to
-    /// 64 symbols, with those left over. Returns how many bytes of the text were read.
-    #[inline(always)]
-    fn read_front(&mut self, text: &[u8]) -> Result<usize, DecodeError<E>>
-        requires no_padding { (state_of self.old).padding ≡ 0 }
-        requires callable { F.IsAlwaysCallable (state_of self.old).closure }
-        requires going { (state_of self.old).failed ≡ false }
-        ensures callable { F.IsAlwaysCallable (state_of self.new).closure }
-        ensures read { ReadsStart (CalledAt F.FnMut) (state_of self.old) text.now result
-            (state_of self.new) }
-    {
-        let mut bytes = [0; BLOCK];
-        let (read, len) = self.state.decode_front(text, &mut bytes);
-        if len == 0 {
-            return Ok(read);
-        }
-        self.write(&bytes[..len])?;
-        Ok(read)
-    }
-
-    /// Reads the symbols at the start of a text of fewer than 64 bytes, and the white space after them. Calls the
-    /// closure with the bytes of the groups that the symbols complete. Returns how many bytes of the text were read:
-    /// none if the text is longer or begins with another byte, or if padding came before it.
-    #[inline(always)]
-    fn read_short(&mut self, text: &[u8]) -> Result<usize, DecodeError<E>>
-        requires some { 1 ≤ length text.now }
-        requires callable { F.IsAlwaysCallable (state_of self.old).closure }
-        requires going { (state_of self.old).failed ≡ false }
-        ensures callable { F.IsAlwaysCallable (state_of self.new).closure }
-        ensures read { ReadsStart (CalledAt F.FnMut) (state_of self.old) text.now result
-            (state_of self.new) }
-    {
-        if text.len() >= BLOCK || !is_symbol(text[0]) || self.state.padding > 0 {
-            return Ok(0);
-        }
-        let read = self.read_front(text)?;
-        if read == text.len() {
-            return Ok(read);
-        }
-        Ok(read + spaces_len(&text[read..]))
-    }
-
-    /// Feeds a text up to its first fault, and holds the bytes of its groups until there are 64. Returns the place of
-    /// the fault and its kind, or the length of the text and None if there is no fault.
+    /// Feeds a text up to its first fault, and holds the bytes of its groups until there are 64. The bytes of a short
+    /// text of symbols alone, and white space after them, are not held. Returns the place of the fault and its kind, or
+    /// the length of the text and None if there is no fault.
     #[inline(always)]
     fn feed_groups(
         &mut self,
         text: &[u8],
     ) -> Result<(usize, Option<InvalidBase64Details>), DecodeError<E>>
+        requires some { 1 ≤ length text.now }
         requires callable { F.IsAlwaysCallable (state_of self.old).closure }
         requires going { (state_of self.old).failed ≡ false }
         ensures callable { F.IsAlwaysCallable (state_of self.new).closure }
         ensures read { ReadsUntilFault (CalledAt F.FnMut) (state_of self.old) text.now result
             (state_of self.new) }
     {
-        let mut groups = HeldGroups::new();
+        let mut front = [0; BLOCK];
+        let mut len = 0;
         let mut at = 0;
+        if text.len() < BLOCK {
+            (at, len) = self.state.decode_symbols(text, &mut front);
+            at += spaces_len(&text[at..]);
+            if at == text.len() {
+                if len == 0 {
+                    return Ok((at, None));
+                }
+                self.write(&front[..len])?;
+                return Ok((at, None));
+            }
+        }
+        let mut groups = HeldGroups::new();
+        groups.hold(&front, len);
         while at < text.len() {
             match self.state.read_groups_or_byte(&text[at..], &mut groups) {
                 Ok(taken) => at += taken,
@@ -253,13 +227,8 @@ where
         if taken == text.len() {
             return Ok((taken, None));
         }
-        let read = self.read_short(&text[taken..])?;
-        let at = taken + read;
-        if at == text.len() {
-            return Ok((at, None));
-        }
-        let (place, fault) = self.feed_groups(&text[at..])?;
-        Ok((at + place, fault))
+        let (place, fault) = self.feed_groups(&text[taken..])?;
+        Ok((taken + place, fault))
     }
 
     /// Decodes the next part of the text, in an encoding that contains ASCII. Calls the closure with the bytes of

@@ -2,15 +2,15 @@
 //! space between two symbols. A unit is the symbols of several rows, without the gaps between them.
 
 ghost use Rattle.std.specs.Prelude.{◌≡◌, ◌*◌, ◌+◌, ◌%◌, ◌≤◌, ◌++◌};
-ghost use Rattle.std.specs.Prelude.{IfSome, IsTrue, drop, filter, length, map, take, ℕ};
+ghost use Rattle.std.specs.Prelude.{IfSome, IsTrue, drop, filter, length, map, slice_index, take, ℕ};
 ghost use Rattle.std.specs.{Char.{is_ascii_whitespace}, List.{list_all, prefix_len}};
 ghost use Rattle.data_url.specs.Base64.{groups, is_symbol, symbol_value};
 ghost use Rattle.data_url.specs.Steps.Groups.{IsOverGap, is_symbol_or_space};
 
 use super::alphabet::{
-    decode_row, is_of_symbols, is_spaced, is_symbol, non_symbols, symbols_ahead,
+    decode_row, is_of_symbols, is_spaced, is_symbol, non_symbols, spaced_ahead, symbols_ahead,
 };
-use crate::classes::lanes::{put, repeated, row, spliced};
+use crate::classes::lanes::{first_row, put, repeated, row, spliced};
 use crate::packing::pack_row;
 use std::simd::prelude::*;
 
@@ -97,6 +97,24 @@ pub(crate) fn pack_rows(text: &[u8], symbols: &mut [u8], enough: usize) -> (usiz
         at += 16;
     }
     (have, at)
+}
+
+/// Packs the symbols among the symbols and the white space that a text begins with. Returns how many symbols are
+/// packed, and how many bytes of the text were read.
+#[inline(always)]
+pub(crate) fn pack_spaced(text: &[u8], symbols: &mut [u8]) -> (usize, usize)
+    requires some { (1 ≤ length text.now) × IsTrue (is_symbol (slice_index text.now 0)) }
+    requires room { length text.now + 48 ≤ length symbols.old }
+    ensures sizes { (result.0 ≤ result.1) × ((1 ≤ result.1) × (result.1 ≤ length text.now)) }
+    ensures spaced { IsTrue (list_all is_symbol_or_space (take result.1 text.now)) }
+    ensures symbols { filter is_symbol (take result.1 text.now) ≡ take result.0 symbols.new }
+{
+    let (have, at) = pack_rows(text, symbols, text.len());
+    let row = first_row(&text[at..]);
+    let end = spaced_ahead(row);
+    let front = spliced(row, u8x16::splat(0), end);
+    let have = pack_row(front, non_symbols(front) as usize, symbols, have);
+    (have, at + end)
 }
 
 /// Goes back in a text to the end of a whole group, from the place `at`, before which there are `have` symbols. Returns

@@ -1,19 +1,21 @@
 //! The bytes of whole groups of a text of base64 (RFC 4648, section 4) that the closure was not yet called with.
 
-ghost use Rattle.std.specs.Prelude.{◌≡◌, ◌%◌, ◌+◌, ◌≤◌, ◌<◌, ◌++◌, [], drop, length};
+ghost use Rattle.std.specs.Prelude.{◌≡◌, ◌%◌, ◌+◌, ◌≤◌, ◌<◌, ◌++◌, [], drop, length, take};
+
+use crate::classes::lanes::{BLOCK, put, row};
 
 /// How many bytes are held before the closure is called: those of 64 groups. If it were called after 16 groups,
 /// decoding lines of 76 symbols would take a fifth longer.
 pub(crate) const FULL: usize = 192;
 
-/// The bytes of up to 64 groups, and of up to three groups of the row that was added last.
+/// The bytes of up to 64 groups, and of up to twelve groups of the symbols that were added last.
 #[derive(Drop)]
 pub(crate) struct HeldGroups {
-    pub(super) bytes: [u8; 224],
+    pub(super) bytes: [u8; 256],
     pub(crate) len: usize,
-    ghost within: { len < 204 },
+    ghost within: { len < 228 },
     ghost whole: { len % 3 ≡ 0 },
-    ghost sized: { length bytes ≡ 224 },
+    ghost sized: { length bytes ≡ 256 },
 }
 
 impl HeldGroups {
@@ -26,9 +28,23 @@ impl HeldGroups {
         ensures len { result.len ≡ 0 }
     {
         HeldGroups {
-            bytes: [0; 224],
+            bytes: [0; 256],
             len: 0,
         }
+    }
+
+    /// Holds the first `len` bytes of a block in place of what was held.
+    #[inline(always)]
+    pub(crate) fn hold(&mut self, block: &[u8; BLOCK], len: usize)
+        requires few { len ≤ 48 }
+        requires whole { len % 3 ≡ 0 }
+        ensures bytes { held_bytes self.new ≡ take len block.now }
+        ensures len { self.new.len ≡ len }
+    {
+        put(&mut self.bytes, 0, row(block, 0));
+        put(&mut self.bytes, 16, row(block, 16));
+        put(&mut self.bytes, 32, row(block, 32));
+        self.len = len;
     }
 
     /// Returns the bytes.
@@ -46,7 +62,7 @@ impl HeldGroups {
         ensures bytes { held_bytes self.new ≡ drop 192 (held_bytes self.old) }
         ensures len { self.new.len + 192 ≡ self.old.len }
     {
-        self.bytes.copy_within(FULL..208, 0);
+        self.bytes.copy_within(FULL..240, 0);
         self.len -= FULL;
     }
 }

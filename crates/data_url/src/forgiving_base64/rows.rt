@@ -1,14 +1,16 @@
 //! Decodes the groups of a text of base64 (RFC 4648, section 4), in rows of sixteen bytes. White space, `=` and faults
 //! that the rows do not pass over are read byte by byte.
 
-ghost use Rattle.std.specs.Prelude.{◌≡◌, ◌<◌, ◌≤◌, ◌++◌, ◌-◌, ◌*◌, ◌/◌, IsTrue, MatchOption, MatchResult};
+ghost use Rattle.std.specs.Prelude.{◌≡◌, ◌<◌, ◌≤◌, ◌++◌, ◌-◌, ◌*◌, ◌/◌, ◌%◌, IsTrue, MatchOption, MatchResult};
 ghost use Rattle.std.specs.Prelude.{drop, length, replicate, slice_index, take};
 ghost use Rattle.std.specs.List.{list_all};
 ghost use Rattle.data_url.specs.Base64.{is_symbol};
 
 use super::InvalidBase64Details;
 use super::alphabet::{decode_row, is_of_symbols, is_symbol, symbols_ahead};
-use super::gaps::{before_partial, decode_unit, pack_rows, row_over_gap, spaces_after_twelve};
+use super::gaps::{
+    before_partial, decode_unit, pack_rows, pack_spaced, row_over_gap, spaces_after_twelve,
+};
 use super::held::{FULL, HeldGroups};
 use super::left_over::LeftOver;
 use crate::classes::lanes::{BLOCK, ROW, first_row, put, repeated, rotated, row, spliced};
@@ -138,9 +140,9 @@ impl LeftOver {
     /// groups that are complete then to `bytes`, and after them bytes that are of no use. Returns how many symbols of
     /// the text were read, and how many bytes the groups have.
     #[inline(always)]
-    pub(super) fn decode_front(&mut self, text: &[u8], bytes: &mut [u8; BLOCK]) -> (usize, usize)
+    fn decode_front(&mut self, text: &[u8], bytes: &mut [u8; BLOCK]) -> (usize, usize)
         requires no_padding { self.old.padding ≡ 0 }
-        ensures sizes { (result.0 ≤ length text.now) × (result.1 ≤ 48) }
+        ensures sizes { (result.0 ≤ length text.now) × ((result.1 ≤ 48) × (result.1 % 3 ≡ 0)) }
         ensures read { Completes (left_state self.old) (take result.0 text.now)
             (take result.1 bytes.new) (left_state self.new) }
     {
@@ -160,8 +162,45 @@ impl LeftOver {
         (read, len + count / 4 * 3)
     }
 
-    /// Reads the symbols that a text begins with, as many as have room in a row after those left over. Adds the bytes
-    /// of the groups that are complete then. Returns how many symbols were read.
+    /// Reads the symbols that a text begins with, as `decode_front` does. Reads nothing if it begins with another byte,
+    /// or if padding came before it.
+    #[inline(always)]
+    pub(super) fn decode_symbols(&mut self, text: &[u8], bytes: &mut [u8; BLOCK]) -> (usize, usize)
+        requires some { 1 ≤ length text.now }
+        ensures sizes { (result.0 ≤ length text.now) × ((result.1 ≤ 48) × (result.1 % 3 ≡ 0)) }
+        ensures read { Completes (left_state self.old) (take result.0 text.now)
+            (take result.1 bytes.new) (left_state self.new) }
+    {
+        if !is_symbol(text[0]) || self.padding > 0 {
+            return (0, 0);
+        }
+        self.decode_front(text, bytes)
+    }
+
+    /// Reads the symbol that a text begins with, and the symbols and the white space after it, up to 48 bytes. Adds the
+    /// bytes of the groups that are complete then. Returns how many bytes of the text were read.
+    #[inline(always)]
+    fn read_spaced(&mut self, text: &[u8], groups: &mut HeldGroups) -> usize
+        requires some { (1 ≤ length text.now) × IsTrue (is_symbol (slice_index text.now 0)) }
+        requires no_padding { self.old.padding ≡ 0 }
+        requires room { groups.old.len < 192 }
+        ensures { Gains (left_state self.old) (held_bytes groups.old) text.now result
+            (left_state self.new) (held_bytes groups.new) }
+    {
+        let mut symbols = [0; 112];
+        symbols[..3].copy_from_slice(&self.symbols);
+        let front = &text[..text.len().min(48)];
+        let (packed, read) = pack_spaced(front, &mut symbols[self.pending..]);
+        let count = self.pending + packed;
+        decode_unit(&symbols, count, &mut groups.bytes, groups.len);
+        groups.len += count / 4 * 3;
+        self.keep_after_groups(row(&symbols, count / 4 * 4), count % 4);
+        read
+    }
+
+    /// Reads the symbols that a text begins with, as many as have room in a row after those left over. If another byte
+    /// comes before, reads symbols and white space, as `read_spaced` does. Adds the bytes of the groups that are
+    /// complete then. Returns how many bytes of the text were read.
     #[inline(always)]
     fn read_symbols(&mut self, text: &[u8], groups: &mut HeldGroups) -> usize
         requires some { (1 ≤ length text.now) × IsTrue (is_symbol (slice_index text.now 0)) }
@@ -172,16 +211,19 @@ impl LeftOver {
     {
         let row = self.row_with(text);
         let count = symbols_ahead(row);
+        let read = count - self.pending;
+        if count < ROW && read < text.len() {
+            return self.read_spaced(text, groups);
+        }
         put(&mut groups.bytes, groups.len, decode_row(row));
         groups.len += count / 4 * 3;
-        let read = count - self.pending;
         self.keep_after_groups(row, count);
         read
     }
 
-    /// Reads whole groups, or symbols, or one other byte that a text begins with, after what is left over of the text
-    /// before. Adds the bytes of the groups that are complete then. Returns how many bytes of the text were read, or
-    /// the kind of the fault if the first byte is one.
+    /// Reads whole groups, or symbols and white space, or one other byte that a text begins with, after what
+    /// is left over of the text before. Adds the bytes of the groups that are complete then. Returns how many bytes of
+    /// the text were read, or the kind of the fault if the first byte is one.
     #[inline(always)]
     pub(super) fn read_groups_or_byte(
         &mut self,
@@ -196,7 +238,7 @@ impl LeftOver {
             (λ details. Refuses (left_state self.old) (slice_index text.now 0) details
             (left_state self.new) × (held_bytes groups.new ≡ held_bytes groups.old)) }
     {
-        if self.is_between_groups() {
+        if text.len() >= BLOCK && self.is_between_groups() {
             let taken = groups.decode_ahead(text);
             if taken > 0 {
                 return Ok(taken);

@@ -43,9 +43,14 @@ pub(super) fn fitting_len(pending: usize, text: &[u8], output: &[u8]) -> usize
     ensures ends { pending ≤ length output.now + 1
         → pending + result ≤ length output.now / 3 * 4 + length output.now % 3 + 1 }
 {
+    let symbols = pending + text.len();
+    // Most outputs have a byte for each symbol. This needs no division.
+    if symbols <= output.len() {
+        return text.len();
+    }
     let groups = output.len() / 3 * 4;
     // Two or three symbols at the end have one or two bytes.
-    if pending + text.len() <= groups + output.len() % 3 + 1 {
+    if symbols <= groups + output.len() % 3 + 1 {
         return text.len();
     }
     groups.saturating_sub(pending)

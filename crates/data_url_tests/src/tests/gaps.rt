@@ -187,3 +187,46 @@ fn a_gap_and_a_fault_in_two_parts(rt: HostRuntime) -> Result<(), Fail> {
     }
     Ok(())
 }
+
+/// Returns the symbols before a place, in lines of a few symbols with a gap between two lines.
+fn spaced_text(alloc: Global, end: usize, every: usize, gap: &str) -> Result<String, AllocError> {
+    let mut text = String::from_str(alloc, "")?;
+    for line in 0..end {
+        let start = line.saturating_mul(every);
+        let symbols = part_of(SYMBOLS[0], start, start.saturating_add(every).min(end));
+        let before = if start == 0 || symbols.is_empty() {
+            ""
+        } else {
+            gap
+        };
+        write!(text, "{before}{symbols}")?;
+    }
+    Ok(text)
+}
+
+/// Asserts what symbols with a gap after every few of them decode to, at once and in two halves.
+fn assert_spaced(
+    rt: &impl Abort,
+    alloc: Global,
+    end: usize,
+    every: usize,
+    gap: &str,
+) -> Result<(), AllocError> {
+    let text = spaced_text(alloc, end, every, gap)?;
+    let text = text.as_bytes();
+    let message = if end % 4 == 1 { LONE } else { "" };
+    assert_parts(rt, alloc, "spaced", &[text], end, message)?;
+    let (front, back) = text.split_at(text.len() / 2);
+    assert_parts(rt, alloc, "spaced, in halves", &[front, back], end, message)
+}
+
+#[test]
+fn a_gap_after_every_few_symbols(rt: HostRuntime) -> Result<(), Fail> {
+    for every in 1..21 {
+        for end in 1..50 {
+            assert_spaced(&rt, rt.alloc(), end, every, "\n")?;
+            assert_spaced(&rt, rt.alloc(), end, every, "\r\n ")?;
+        }
+    }
+    Ok(())
+}

@@ -282,6 +282,9 @@ fn tails_that_are_not_text(rt: HostRuntime) -> Result<(), Fail> {
     Ok(())
 }
 
+/// The longest output that base64 is fed to.
+const LONGEST_OUTPUT: usize = 20;
+
 /// Feeds a part of base64 to an output of this length, after what is left over, which is taken apart and made again.
 /// Appends the bytes. Returns how much was read, and what is left over or the number of the fault.
 fn feed(
@@ -293,8 +296,8 @@ fn feed(
 ) -> Result<(usize, Result<LeftOver, u16>), AllocError> {
     let (symbols, pending, padding) = left_over.into_parts();
     let same = LeftOver::from_parts(symbols, pending, padding);
-    let mut room = [UNTOUCHED; 9];
-    let (output, _) = room.split_at_mut(size.min(9));
+    let mut room = [UNTOUCHED; LONGEST_OUTPUT];
+    let (output, _) = room.split_at_mut(size.min(LONGEST_OUTPUT));
     let Fed {
         read,
         len,
@@ -371,6 +374,9 @@ fn empty_parts_and_many_padding_signs(rt: HostRuntime) -> Result<(), Fail> {
     Ok(())
 }
 
+/// Lengths of outputs: some have a byte for each symbol of a part, and some have not.
+const OUTPUTS: [usize; 10] = [3, 4, 5, 6, 7, 8, 9, 15, 16, LONGEST_OUTPUT];
+
 #[test]
 fn base64_in_parts(rt: HostRuntime) -> Result<(), Fail> {
     for (text, number) in TEXTS.as_slice() {
@@ -378,8 +384,9 @@ fn base64_in_parts(rt: HostRuntime) -> Result<(), Fail> {
         let whole = Source::Base64(&pieces).record_both(&rt, rt.alloc(), text, 0)?;
         let decoded = decode_to_vec(rt.alloc(), text.as_bytes());
         assert_that(&rt, text, decoded.is_ok() == (*number == VALID));
-        for sizes in 0..63 {
-            let sizes = [sizes % 9 + 1, sizes / 9 + 3];
+        // Parts of 1 to 18 bytes: some are longer than a row.
+        for sizes in 0..18 * OUTPUTS.len() {
+            let sizes = [sizes % 18 + 1, OUTPUTS[sizes / 18]];
             let mut bytes = Vec::new(rt.alloc());
             let found = feed_in(&rt, text.as_bytes(), sizes, &mut bytes)?;
             assert_that(&rt, text, found == *number);

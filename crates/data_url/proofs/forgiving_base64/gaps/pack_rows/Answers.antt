@@ -1,14 +1,15 @@
 use Rattle.std.proofs.Common.{arith, drop, length-drop, sym, ◌∙◌}
+use Rattle.data_url.proofs.forgiving_base64.Vectors.{is_other}
 use Rattle.data_url.specs.Steps.Groups.{is_symbol_or_space}
 use Rattle.data_url.proofs.{classes.Lookups.{all_in_rows}, forgiving_base64.Groups.{row_long}}
-use Rattle.data_url.proofs.forgiving_base64.Packed.{non_symbols_small, row_spaced, row_symbols}
+use Rattle.data_url.proofs.forgiving_base64.Packed.{row_mask_small, row_spaced, row_symbols}
 use Rattle.data_url.proofs.forgiving_base64.gaps.pack_rows.Goals as goal
 
 pub pack_row-have-requires-clause-bits : goal.pack_row-have-requires-clause-bits
 pack_row-have-requires-clause-bits c =
     let rest = drop c.loop-have.at c.args.text.now in
     let long = row_long rest c.row-row.ensures (omega (arith, length-drop c.loop-have.at c.args.text.now)) in
-    non_symbols_small c.row-row.result long c.non_symbols.ensures
+    row_mask_small is_other c.row-row.result long c.non_symbols.ensures
 
 pub loop-have-preserved : goal.loop-have-preserved
 loop-have-preserved c =

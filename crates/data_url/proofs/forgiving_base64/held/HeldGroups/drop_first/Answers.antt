@@ -7,11 +7,11 @@ returns-clause-bytes c =
     let old = c.args.self.now in
     let new = c.copy_within.new.self in
     let n = old.len - 192 in
-    let few : n ≤ 12 = omega (arith, old.within) in
+    let few : n ≤ 36 = omega (arith, old.within) in
     cc (
-      take-take n 16 new (omega arith),
-      take-take n 16 (drop 192 old.bytes) (omega arith),
-      take-paste old.bytes 0 (drop 192 old.bytes) 16 (omega (arith, old.sized))
+      take-take n 48 new (omega arith),
+      take-take n 48 (drop 192 old.bytes) (omega arith),
+      take-paste old.bytes 0 (drop 192 old.bytes) 48 (omega (arith, old.sized))
           (omega (arith, old.sized, length-drop 192 old.bytes)),
       drop_taken 192 old.len old.bytes,
       c.copy_within.ensures.after,

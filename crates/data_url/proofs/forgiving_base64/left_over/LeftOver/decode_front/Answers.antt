@@ -1,5 +1,6 @@
 use Rattle.std.proofs.Common.{◌*◌, ◌+◌, ◌-◌, ◌/◌, ◌∙◌, ap, arith, length-take-le, refl}
 use Rattle.std.proofs.lemmas.List.{take_rest}
+use Rattle.data_url.specs.Base64.{is_symbol}
 use Rattle.data_url.specs.{Steps.Holding.{left_state}}
 use Rattle.data_url.proofs.forgiving_base64.Joined.{completes_front, fronts_first, fronts_more, joins_left}
 use Rattle.data_url.proofs.forgiving_base64.Groups.{put_front}
@@ -10,7 +11,8 @@ pub overflow_sub-read : goal.overflow_sub-read
 overflow_sub-read c =
     let d = c.args.self.now in
     let is = c.symbols_ahead-count.ensures.starts in
-    let joins = joins_left d c.args.text.now c.row_with-row.result (omega arith) c.row_with-row.ensures is in
+    let joins = joins_left is_symbol d c.args.text.now c.row_with-row.result refl d.pending_symbols (omega arith)
+    c.row_with-row.ensures is in
     omega (arith, joins.count, is, length-take-le d.pending d.symbols (omega arith))
 
 pub loop-count-init : goal.loop-count-init
@@ -22,7 +24,8 @@ loop-count-init c =
       few = (c.symbols_ahead-count.ensures.few, (omega arith, refl));
       long = omega arith;
       fronts = fronts_first (n - d.pending) n c.decode_row.result
-          (joins_left d c.args.text.now c.row_with-row.result (omega arith) c.row_with-row.ensures is) is (omega arith)
+          (joins_left is_symbol d c.args.text.now c.row_with-row.result refl d.pending_symbols (omega arith)
+          c.row_with-row.ensures is) is (omega arith)
           c.decode_row.ensures.bytes
           (put_front c.args.bytes.now c.put.new.bytes c.decode_row.result 0 (n / 4 * 3) (omega arith) (omega arith)
           c.put.ensures);

@@ -47,11 +47,11 @@ returns-then-self-gt0 c = (
 
 pub read_symbols-requires-clause-room : goal.read_symbols-requires-clause-room
 read_symbols-requires-clause-room c =
-    let groups = c.if-is_between_groups.groups in
+    let groups = c.if-text-ge-BLOCK.groups in
     let same : held_bytes groups ≡ held_bytes c.args.groups.now = grind unfilled in
     omega (arith, ap length same, held_len groups, held_len c.args.groups.now, c.requires.room)
 
 pub returns-else-self-gt0 : goal.returns-else-self-gt0
 returns-else-self-gt0 c =
-    let same : held_bytes c.if-is_between_groups.groups ≡ held_bytes c.args.groups.now = grind unfilled in
+    let same : held_bytes c.if-text-ge-BLOCK.groups ≡ held_bytes c.args.groups.now = grind unfilled in
     rw same at c.read_symbols.ensures

@@ -1,9 +1,8 @@
 use Rattle.std.proofs.Common.{◌*◌, ◌-◌, ◌/◌, ◌∙◌, ap, arith, length-take-le, refl, take}
 use Rattle.std.specs.List.{list_all}
 use Rattle.data_url.specs.{Base64.{is_symbol}, Steps.Holding.{left_state}}
-use Rattle.data_url.proofs.forgiving_base64.Groups.{prefix_passes}
+use Rattle.data_url.proofs.forgiving_base64.Groups.{prefix_passes, put_front}
 use Rattle.data_url.proofs.forgiving_base64.Joined.{fronts_first, gains_front, joins_left, some_read}
-use Rattle.data_url.proofs.forgiving_base64.Groups.{put_front}
 use Rattle.data_url.proofs.forgiving_base64.Steps.{sound}
 use Rattle.data_url.proofs.forgiving_base64.left_over.LeftOver.read_symbols.Goals as goal
 
@@ -11,7 +10,8 @@ pub overflow_sub-read : goal.overflow_sub-read
 overflow_sub-read c =
     let d = c.args.self.now in
     let is = c.symbols_ahead-count.ensures.starts in
-    let joins = joins_left d c.args.text.now c.row_with-row.result (omega arith) c.row_with-row.ensures is in
+    let joins = joins_left is_symbol d c.args.text.now c.row_with-row.result refl d.pending_symbols (omega arith)
+    c.row_with-row.ensures is in
     omega (arith, joins.count, is, length-take-le d.pending d.symbols (omega arith))
 
 pub keep_after_groups-requires-clause-symbols : goal.keep_after_groups-requires-clause-symbols
@@ -29,7 +29,8 @@ returns c =
     let is = c.symbols_ahead-count.ensures.starts in
     let kept = c.keep_after_groups.ensures in
     let front = fronts_first (n - d.pending) n c.decode_row.result
-    (joins_left d text row (omega arith) c.row_with-row.ensures is) is (omega arith) c.decode_row.ensures.bytes refl in
+    (joins_left is_symbol d text row refl d.pending_symbols (omega arith) c.row_with-row.ensures is) is (omega arith)
+    c.decode_row.ensures.bytes refl in
     gains_front (left_state d) (left_state c.keep_after_groups.new.self) text row _ (n - d.pending) n front (sound d)
     c.requires.no_padding refl (ap (λ s. s.symbols) kept) (ap (λ s. s.padding) kept ∙ c.requires.no_padding) refl
     (some_read d text row (omega arith) c.row_with-row.ensures is c.requires.some.0 c.requires.some.1)
