@@ -4,7 +4,7 @@ use Rattle.std.proofs.Common.{append-nil, take-take, drop-drop, length-drop, len
 use Rattle.std.proofs.Common.{None, take-add, append_assoc, length-append, ◌/◌, ◌≡◌, ℕ, Bool, ◌+◌, ◌*◌, ◌≤◌, true, ◌&&◌}
 use Rattle.std.proofs.Common.{◌||◌, List, [], ◌∷◌, ◌++◌, map, length, ◌-◌, replicate, zero, suc}
 use Rattle.std.{proofs.Math.Seq.{take-append-add}, proofs.lemmas.Bool.{and_parts}, proofs.lemmas.List.{length-map}}
-use Rattle.std.proofs.lemmas.List.{take_rest, map-append, length-replicate}
+use Rattle.std.proofs.lemmas.List.{take-append-le, take_rest, map-append, length-replicate}
 use Rattle.std.{proofs.lemmas.List.Elements.{filter-append}, proofs.lemmas.List.Folds.{list_all-append}}
 use Rattle.std.proofs.lemmas.List.Sums.{list_all-from_AllPass, prefix_len-le-length, prefix_len_passes}
 use Rattle.std.{specs.Char.{is_ascii_whitespace}, specs.List.{list_all, prefix_len, filter, list_any}}
@@ -79,7 +79,7 @@ symbols_kept [] = refl
 symbols_kept (c ∷ t) = grind (arith, symbols_kept t)
 
 -- no bytes are read
-pub adds_nothing : (held : List ℕ) → AddsGroups held [] held
+adds_nothing : (held : List ℕ) → AddsGroups held [] held
 unfolding groups
 adds_nothing held = grind (arith, append-nil)
 
@@ -105,6 +105,14 @@ adds_then {held} {h1} {h2} a b f g =
         append_assoc held (groups (map symbol_value x)) (groups (map symbol_value y)),
       );
     }
+
+-- the first bytes of a list, and then some of those that were written after them
+pub part_taken : (old part rest : List ℕ) (at n : ℕ) → at ≤ length old → n ≤ length part
+    → take (at + n) (take at old ++ (part ++ rest)) ≡ take at old ++ take n part
+part_taken old part rest at n within few =
+    let size : at + n ≡ length (take at old) + n = omega (arith, length-take-le at old within) in
+    ap (λ k. take k (take at old ++ (part ++ rest))) size ∙ take-append-add (take at old) (part ++ rest) n
+    ∙ ap (λ t. take at old ++ t) (take-append-le n part rest few)
 
 -- what was put after the first n bytes, as far as it is kept
 pub put_front : (old new row : List ℕ) (n k : ℕ) → n ≤ length old → k ≤ 16 → take (n + 16) new ≡ take n old ++ row

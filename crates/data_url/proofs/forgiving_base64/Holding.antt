@@ -5,7 +5,8 @@ use Rattle.std.proofs.Common.{Option, None, Some, is_some, Result, Ok, Err, refl
 use Rattle.std.proofs.Common.{append_assoc, drop-drop, length-append, take-append-drop, append-nil, false, cond, min}
 use Rattle.std.proofs.Common.{◌&&◌, ◌||◌, List, [], ◌∷◌, ◌++◌, length, map, drop, get_or, take, take-add, get_or-drop}
 use Rattle.std.proofs.Common.{length-drop, MatchResult, eqb, eqb-true, inl, inr, slice_index, ◌≡◌, ℕ, ◌+◌, ◌-◌, ◌/◌}
-use Rattle.std.{proofs.Common.{◌<◌, ◌≤◌, length-take-le, Bool, true}, proofs.lemmas.Bool.{and_parts, cases_Bool}}
+use Rattle.std.proofs.Common.{◌<◌, ◌≤◌, length-take, length-take-le, take-take, Bool, true}
+use Rattle.std.proofs.lemmas.Bool.{and_parts, cases_Bool}
 use Rattle.std.{proofs.lemmas.Bool.{true≢false}, proofs.lemmas.List.{nil_from_length, take_more, take_rest}}
 use Rattle.std.{proofs.lemmas.List.Folds.{list_all-append, list_all_more}, specs.List.{filter, list_all}}
 use Rattle.std.specs.{Char.{is_ascii_whitespace}, List.{prefix_len}, Option.{option_or}, Result.{result_err}}
@@ -19,7 +20,8 @@ use Rattle.data_url.specs.{Steps.Holding.{ReadsTo, Refuses}, Steps.Window.{is_no
 use Rattle.data_url.specs.declared.forgiving_base64.DecodeError.{DecodeError}
 use Rattle.data_url.specs.declared.forgiving_base64.DecodeError.TheVariants.{InvalidBase64, WriteError}
 use Rattle.data_url.specs.declared.forgiving_base64.held.HeldGroups.{HeldGroups}
-use Rattle.data_url.proofs.forgiving_base64.{Groups.{prefix_passes, symbols_alone}, Padding.{every_list_all}}
+use Rattle.data_url.proofs.forgiving_base64.Groups.{part_taken, prefix_passes, symbols_alone}
+use Rattle.data_url.proofs.forgiving_base64.Padding.{every_list_all}
 use Rattle.data_url.proofs.forgiving_base64.Padding.{fault-append, fault_byte, fault_none, filter_all, is_pad, is_bad}
 use Rattle.data_url.proofs.{forgiving_base64.Padding.{length-after_groups, passed}, forgiving_base64.Steps.{IsSound}}
 use Rattle.data_url.proofs.runs.Runs.{joined_pieces-append, match_at, match_none, refusal-append, run-append}
@@ -91,6 +93,10 @@ none_from : {A : Type 0} (o : Option A) → is_some o ≡ false → o ≡ None
 none_from None e = refl
 none_from (Some x) e = absurd (true≢false e)
 
+-- the first bytes of s, and then n of those after them
+pub taken_more : (s : List ℕ) (at n : ℕ) → take at s ++ take n (take (length s - at) (drop at s)) ≡ take (at + n) s
+taken_more s at n = cc (take-add at n s, take_rest s at)
+
 module _ {F : Type 0} where
   -- if d has no padding, a text of symbols and white space completes the groups of its symbols, after those left over
   -- in d
@@ -130,12 +136,70 @@ module _ {F : Type 0} where
     held_are = f.held_are;
   }
 
+  -- what is read of the start of a text, and written after the bytes that are held
+  pub gains_part : {d d' : State F} (text old part rest : List ℕ) (cut n at k : ℕ) → at ≤ length old → k ≤ length part
+      → Gains d [] (take cut text) n d' (take k part)
+      → Gains d (take at old) text n d' (take (at + k) (take at old ++ (part ++ rest)))
+  gains_part text old part rest cut n at k within few g =
+      let front = length-take cut text in
+      record {
+        some = g.some;
+        within = omega (arith, g.within, front);
+        more = g.more;
+        completes = rw (take-take n cut text (omega (arith, g.within, front))) at g.completes;
+        held_are = part_taken old part rest at k within few ∙ ap (λ t. take at old ++ t) g.held_are;
+      }
+
   -- the first byte of a text, which completes no group
   pub gains_none : {d d' : State F} {held held' : List ℕ} (text : List ℕ) → 1 ≤ length text
       → Completes d (get_or text 0 0 ∷ []) [] d' → held' ≡ held → Gains d held text 1 d' held'
   gains_none [] some a e = absurd (omega arith)
   gains_none {held = held} (c ∷ t) some a e =
       let same = e ∙ sym (append-nil held) in grind arith
+
+  -- a text is read, and then another one
+  completes_then : {d d1 d2 : State F} {t u a b : List ℕ} → Completes d t a d1 → Completes d1 u b d2
+      → Completes d (t ++ u) (a ++ b) d2
+  completes_then {d} {d1} {d2} {t} {u} {a} {b} f g =
+      let on = left_goes_on (left_over d ++ t) u f.no_fault f.left in
+      let same = append_assoc (left_over d) t u in
+      record {
+        no_fault = ap first_fault (sym same) ∙ none_from _ (on.fault_is ∙ ap is_some g.no_fault);
+        bytes_are = cc (f.bytes_are, g.bytes_are, on.done_is, same);
+        left = record {
+          symbols_are = g.left.symbols_are ∙ sym on.symbols_left ∙ ap left_symbols same;
+          padding_is = g.left.padding_is ∙ sym on.padding_left ∙ ap left_padding same;
+        };
+        few = omega (arith, f.few, g.few, length-append t u, length-append a b);
+        closure_stays = g.closure_stays ∙ f.closure_stays;
+        going = g.going;
+      }
+
+  -- the first `at` bytes of a text are read, and then n bytes of the others
+  pub completes_more : {d d1 d2 : State F} {a b : List ℕ} (s : List ℕ) (at n : ℕ) → Completes d (take at s) a d1
+      → Completes d1 (take n (take (length s - at) (drop at s))) b d2 → Completes d (take (at + n) s) (a ++ b) d2
+  completes_more s at n f g = rw (sym (taken_more s at n)) (completes_then f g)
+
+  -- white space is read
+  completes_spaces : {d : State F} (u : List ℕ) → list_all is_ascii_whitespace u ≡ true
+      → IsSound d.symbols d.padding → d.failed ≡ false → Completes d u [] d
+  completes_spaces [] all s going = completes_none s going
+  completes_spaces (c ∷ u) all s going =
+      let p = and_parts (is_ascii_whitespace c) (list_all is_ascii_whitespace u) all in
+      completes_then (completes_space c s p.0 going) (completes_spaces u p.1 s going)
+
+  -- the white space that a text begins with is read
+  completes_ahead : {d : State F} (u : List ℕ) {k : ℕ} → k ≡ prefix_len is_ascii_whitespace u
+      → IsSound d.symbols d.padding → d.failed ≡ false → Completes d (take k u) [] d
+  completes_ahead u is = completes_spaces (take _ u)
+      (ap (λ n. list_all is_ascii_whitespace (take n u)) is ∙ prefix_passes is_ascii_whitespace u)
+
+  -- the first `at` bytes of a text are read, and then the white space after them
+  pub completes_on : {d d1 : State F} {a : List ℕ} (s : List ℕ) (at k : ℕ) → IsSound d1.symbols d1.padding
+      → Completes d (take at s) a d1 → k ≡ prefix_len is_ascii_whitespace (take (length s - at) (drop at s))
+      → Completes d (take (at + k) s) a d1
+  completes_on {a = a} s at k sound f is =
+      rw (append-nil a) at (completes_more s at k f (completes_ahead _ is sound f.going))
 
 -- `len` is the number of bytes that are held
 pub held_len : (p : HeldGroups) → length (held_bytes p) ≡ p.len
@@ -152,10 +216,6 @@ accepted_call (Err x) e h = grind arith
 -- the first byte of the text from an index on is the byte at that index
 pub byte_at : (s : List ℕ) (at : ℕ) → at < length s → get_or (take (length s - at) (drop at s)) 0 0 ≡ get_or s at 0
 byte_at s at h = grind (arith, get_or, take_rest, get_or-drop)
-
--- the first bytes of s, and then n of those after them
-pub taken_more : (s : List ℕ) (at n : ℕ) → take at s ++ take n (take (length s - at) (drop at s)) ≡ take (at + n) s
-taken_more s at n = cc (take-add at n s, take_rest s at)
 
 -- the bytes of s from `at` on, and b, are those up to `end`, and then the others and b
 pub held_cut : (s b : List ℕ) (at end : ℕ) → at ≤ end
@@ -225,6 +285,13 @@ module _ {F E : Type 0} (step : F → List ℕ → Result (Unit {0}) E → F →
   completes_lifted : {f : F} {failed : Bool} {d d' : State (Unit {0})} {t bytes : List ℕ} → failed ≡ false
       → Completes d t bytes d' → Completes (with_closure f failed d) t bytes (with_closure f failed d')
   completes_lifted going a = grind arith
+
+  -- the first `at` bytes of a text are read, and then the white space that follows
+  pub reads_on_spaces : {d d1 : State F} {held : List ℕ} (s : List ℕ) (at k : ℕ) → IsSound d1.symbols d1.padding
+      → ReadsHolding step d (take at s) held d1 → k ≡ prefix_len is_ascii_whitespace (take (length s - at) (drop at s))
+      → ReadsHolding step d (take (at + k) s) held d1
+  reads_on_spaces {held = held} s at k sound r is =
+      rw (append-nil held) at (reads_more s at k r (completes_ahead _ is sound r.going))
 
   -- some text is read without the closure
   pub reads_whole : {f : F} {failed : Bool} {d d' : State (Unit {0})} {t bytes : List ℕ} → IsSound d.symbols d.padding
@@ -380,26 +447,6 @@ module _ {F E : Type 0} (step : F → List ℕ → Result (Unit {0}) E → F →
       → ReadsHolding step d1 (take n (take (length s - at) (drop at s))) held d2
       → ReadsHolding step d (take (at + n) s) held d2
   reads_on s at n r a = rw (sym (taken_more s at n)) (reads_both r a)
-
-  -- a text is read, and then white space
-  reads_spaces : {d d1 : State F} {held : List ℕ} (t u : List ℕ) → list_all is_ascii_whitespace u ≡ true
-      → IsSound d1.symbols d1.padding → ReadsHolding step d t held d1 → ReadsHolding step d (t ++ u) held d1
-  reads_spaces t [] all s r = rw (append-nil t) r
-  reads_spaces {d} {d1} {held} t (c ∷ u) all s r =
-      let p = and_parts (is_ascii_whitespace c) (list_all is_ascii_whitespace u) all in
-      let next = reads_then r (completes_space c s p.0 r.going) in
-      subst (λ x. ReadsHolding step d x held d1) (append_assoc t (c ∷ []) u)
-      (reads_spaces (t ++ c ∷ []) u p.1 s (rw (append-nil held) at next))
-
-  -- the first `at` bytes of a text are read, and then the white space that follows
-  pub reads_on_spaces : {d d1 : State F} {held : List ℕ} (s : List ℕ) (at k : ℕ) → IsSound d1.symbols d1.padding
-      → ReadsHolding step d (take at s) held d1 → k ≡ prefix_len is_ascii_whitespace (take (length s - at) (drop at s))
-      → ReadsHolding step d (take (at + k) s) held d1
-  reads_on_spaces s at k sound r is =
-      let rest = take (length s - at) (drop at s) in
-      let all : list_all is_ascii_whitespace (take k rest) ≡ true =
-      ap (λ n. list_all is_ascii_whitespace (take n rest)) is ∙ prefix_passes is_ascii_whitespace rest in
-      rw (sym (taken_more s at k)) (reads_spaces (take at s) (take k rest) all sound r)
 
   -- the first `at` bytes of a text are read, and an error of the closure ends the feeding of the others
   pub ends_on : {d d1 d2 : State F} {x : DecodeError E} (s : List ℕ) (at : ℕ) → at ≤ length s

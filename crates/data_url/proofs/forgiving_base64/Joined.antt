@@ -1,6 +1,6 @@
 -- The symbols that are left over, and then those that a text begins with, in one row. For `row_with`, and for what
 -- reads such rows.
-use Rattle.std.proofs.Common.{append_assoc, Bool, filter, List, [], ◌∷◌, ap, append-nil, arith, drop, false, get_or}
+use Rattle.std.proofs.Common.{Bool, filter, List, [], ◌∷◌, ap, append-nil, arith, drop, false, get_or}
 use Rattle.std.proofs.Common.{length, length-append, length-drop, length-take, length-take-le, map, refl, replicate}
 use Rattle.std.proofs.Common.{suc, sym, take}
 use Rattle.std.proofs.Common.{take-add, take-take, true, zero, ℕ, ◌%◌, ◌*◌, ◌++◌, ◌+◌, ◌-◌, ◌/◌, ◌∙◌, ◌≡◌, ◌≤◌}
@@ -15,10 +15,9 @@ use Rattle.data_url.specs.declared.forgiving_base64.left_over.LeftOver as left
 use Rattle.data_url.specs.{Decoder.{State}, Steps.Holding.{Completes, Gains}, Steps.Lanes.{DecodesFront}}
 use Rattle.data_url.specs.Steps.Groups.{is_symbol_or_space}
 use Rattle.data_url.proofs.classes.FirstRows.{padded_front}
-use Rattle.data_url.proofs.forgiving_base64.Groups.{prefix_end, prefix_passes, symbols_alone, symbols_kept}
+use Rattle.data_url.proofs.forgiving_base64.Groups.{part_taken, prefix_end, prefix_passes, symbols_alone, symbols_kept}
 use Rattle.data_url.proofs.forgiving_base64.Holding.{completes_spaced}
-use Rattle.data_url.proofs.forgiving_base64.Padding.{after_groups-append, after_is, every_list_all, filter_all}
-use Rattle.data_url.proofs.forgiving_base64.Padding.{length-after_groups}
+use Rattle.data_url.proofs.forgiving_base64.Padding.{after_is, every_list_all, filter_all}
 use Rattle.data_url.proofs.forgiving_base64.{Steps.{IsSound, groups_few}, Vectors.{groups_whole}}
 
 -- the first items of a list, up to three, are the same where only its first three items are kept
@@ -90,13 +89,23 @@ joins pass q text row p zero_fails long few passed is =
     })
 
 -- so it is with what is left over of a text
-pub joins_left : (pass : ℕ → Bool) (s : left.LeftOver) (text row : List ℕ) {count : ℕ} → pass 0 ≡ false
-    → list_all pass (take s.pending s.symbols) ≡ true → length s.symbols ≡ 3
+pub joins_left : (s : left.LeftOver) (text row : List ℕ) {count : ℕ} → length s.symbols ≡ 3
     → row ≡ take s.pending s.symbols ++ take (16 - s.pending) (text ++ replicate 16 0)
-    → count ≡ prefix_len pass row → Joins pass (take s.pending s.symbols) text row (count - s.pending)
-joins_left pass s text row zero_fails passed three is count =
-    rw count (joins pass (take s.pending s.symbols) text row s.pending zero_fails
-    (length-take-le s.pending s.symbols (omega (arith, three, s.few_pending))) s.few_pending passed is)
+    → count ≡ prefix_len is_symbol row → Joins is_symbol (take s.pending s.symbols) text row (count - s.pending)
+joins_left s text row three is count =
+    rw count (joins is_symbol (take s.pending s.symbols) text row s.pending refl
+    (length-take-le s.pending s.symbols (omega (arith, three, s.few_pending))) s.few_pending s.pending_symbols is)
+
+-- the symbols that such a row begins with have those left over among them
+pub left_ahead : (s : left.LeftOver) (text row : List ℕ) {count : ℕ} → length s.symbols ≡ 3
+    → row ≡ take s.pending s.symbols ++ take (16 - s.pending) (text ++ replicate 16 0)
+    → count ≡ prefix_len is_symbol row → s.pending ≤ count
+left_ahead s text row three is count = omega (
+  arith,
+  (joins_left s text row three is count).count,
+  count,
+  length-take-le s.pending s.symbols (omega (arith, three, s.few_pending)),
+)
 
 -- if the text begins with an item that passes the test, it is read
 begins : (pass : ℕ → Bool) (text : List ℕ) (n : ℕ) → 1 ≤ length text → pass (get_or text 0 0) ≡ true
@@ -238,43 +247,6 @@ fronts_first {q} {text} {row} read count decoded j ahead long decodes is =
       left = cc (after_is (take count row), length-take-le count row (omega (arith, few, long)), symbols);
     }
 
--- so it is after one row more
-pub fronts_more : {q text row bytes more row' : List ℕ} (read m : ℕ) (decoded : List ℕ)
-    → Fronts q text row bytes read 16 → length row ≡ 16 → row' ≡ take 16 (drop read text ++ replicate 16 0)
-    → m ≡ prefix_len is_symbol row' → length row' ≡ 16 → DecodesFront row' decoded
-    → more ≡ bytes ++ take (m / 4 * 3) decoded → Fronts q text row' more (read + m) m
-fronts_more {q} {text} {row} {bytes} {more} {row'} read m decoded f sized row_is ahead long decodes is =
-    let a = q ++ take read text in
-    let rest = drop read text in
-    let b = take m rest in
-    let all : prefix_len is_symbol row' - 0 ≡ m = omega (arith, ahead) in
-    let j : Joins is_symbol [] rest row' m =
-    rw all at (joins is_symbol [] rest row' 0 refl refl (omega arith) refl row_is) in
-    let g : Fronts [] rest row' (take (m / 4 * 3) decoded) m m = fronts_first m m decoded j ahead long decodes refl in
-    let none : after_groups a ≡ [] =
-    sym f.left ∙ nil_from_length (drop 16 (take 16 row)) (omega (
-      arith,
-      length-drop 16 (take 16 row),
-      length-take-le 16 row (omega (arith, sized)),
-    )) in
-    let whole : length (map symbol_value a) % 4 ≡ 0 =
-    omega (arith, length-map a symbol_value, length-after_groups a, ap length none) in
-    let joined : a ++ b ≡ q ++ take (read + m) text = cc (append_assoc q (take read text) b, take-add read m text) in
-    record {
-      within = omega (arith, f.within, g.within, length-drop read text);
-      in_row = g.in_row;
-      all = cc (sym joined, list_all-append is_symbol a b, f.all, g.all);
-      bytes_are = cc (
-        is,
-        f.bytes_are,
-        g.bytes_are,
-        joined,
-        map-append symbol_value a b,
-        groups_whole (map symbol_value a) (map symbol_value b) whole,
-      );
-      left = cc (g.left, joined, after_groups-append a b, none);
-    }
-
 module _ {F : Type 0} (d d' : State F) (text row bytes : List ℕ) (read count : ℕ)
     (f : Fronts d.symbols text row bytes read count) (s : IsSound d.symbols d.padding) (none : d.padding ≡ 0)
     (closure : d'.closure ≡ d.closure) (left : d'.symbols ≡ drop (count / 4 * 4) (take count row))
@@ -300,16 +272,24 @@ module _ {F : Type 0} (d d' : State F) (text row bytes : List ℕ) (read count :
   }
 
 -- symbols that are left over, copied to the start of a list, and those that are packed after them
-pub packed_after : (left copied zeros packed rest : List ℕ) (p n : ℕ) → p ≤ length left → copied ≡ left
-    → n ≤ length packed → take (p + n) (take p (copied ++ zeros) ++ (packed ++ rest)) ≡ take p left ++ take n packed
-packed_after left copied zeros packed rest p n few same within =
+pub packed_after : (left copied zeros packed rest : List ℕ) (p n : ℕ) {k : List ℕ} → p ≤ length left → copied ≡ left
+    → n ≤ length packed → k ≡ take n packed
+    → (take (p + n) (take p (copied ++ zeros) ++ (packed ++ rest)) ≡ take p left ++ k)
+    × (p + n ≤ length (take p (copied ++ zeros) ++ (packed ++ rest)))
+packed_after left copied zeros packed rest p n few same within are =
     let front : take p (copied ++ zeros) ≡ take p left =
     ap (λ t. take p (t ++ zeros)) same ∙ take-append-le p left zeros few in
-    let size : p + n ≡ length (take p left) + n = omega (arith, length-take-le p left few) in
-    ap (λ t. take (p + n) (t ++ (packed ++ rest))) front
-    ∙ ap (λ k. take k (take p left ++ (packed ++ rest))) size
-    ∙ take-append-add (take p left) (packed ++ rest) n
-    ∙ ap (λ t. take p left ++ t) (take-append-le n packed rest within)
+    let long : p ≤ length (copied ++ zeros) =
+    omega (arith, few, ap length same, length-append copied zeros) in (
+      part_taken (copied ++ zeros) packed rest p n long within ∙ cc (front, are),
+      omega (
+        arith,
+        within,
+        length-take-le p (copied ++ zeros) long,
+        length-append (take p (copied ++ zeros)) (packed ++ rest),
+        length-append packed rest,
+      ),
+    )
 
 module _ (symbols row : List ℕ) (count : ℕ) (is : row ≡ take 16 (drop (count / 4 * 4) symbols)) where
   -- the symbols after whole groups, in a row
@@ -321,8 +301,7 @@ module _ (symbols row : List ℕ) (count : ℕ) (is : row ≡ take 16 (drop (cou
   )
 
 module _ {F : Type 0} (d d' : State F) (text symbols row old new : List ℕ) (n read count : ℕ)
-    (same : take count symbols ≡ d.symbols ++ filter is_symbol (take read text))
-    (sized : count ≡ length d.symbols + length (filter is_symbol (take read text)))
+    (are : (take count symbols ≡ d.symbols ++ filter is_symbol (take read text)) × (count ≤ length symbols))
     (spaced : list_all is_symbol_or_space (take read text) ≡ true)
     (decodes : (m : ℕ) → 4 * m ≤ count → list_all is_symbol (take (4 * m) symbols) ≡ true
     → take (n + 3 * m) new ≡ take n old ++ groups (map symbol_value (take (4 * m) symbols)))
@@ -332,7 +311,7 @@ module _ {F : Type 0} (d d' : State F) (text symbols row old new : List ℕ) (n 
       let k = filter is_symbol (take read text) in
       let left : list_all is_symbol d.symbols ≡ true =
       ap (list_all is_symbol) (sym (filter_all is_symbol d.symbols s.every)) ∙ symbols_kept d.symbols in
-      cc (same, list_all-append is_symbol d.symbols k, left, symbols_kept (take read text))
+      cc (are.0, list_all-append is_symbol d.symbols k, left, symbols_kept (take read text))
 
   -- the symbols after whole groups are kept
   pub row_symbols_left : list_all is_symbol (take (count % 4) row) ≡ true
@@ -352,8 +331,6 @@ module _ {F : Type 0} (d d' : State F) (text symbols row old new : List ℕ) (n 
       let bytes : take (n + count / 4 * 3) new
       ≡ take n old ++ groups (map symbol_value (take (count / 4 * 4) symbols)) =
       rw (four, three) at (decodes (count / 4) (omega arith) all) in
-      let long : count ≤ length symbols =
-      omega (arith, sized, ap length same, length-append d.symbols k, length-take count symbols) in
       record {
         some = some;
         within = within;
@@ -362,8 +339,8 @@ module _ {F : Type 0} (d d' : State F) (text symbols row old new : List ℕ) (n 
           none_cut,
           left_in_row symbols row count is,
           after_is (take count symbols),
-          length-take-le count symbols long,
-          same,
+          length-take-le count symbols are.1,
+          are.0,
         )) padding going;
-        held_are = cc (bytes, groups_cut symbols count long, same);
+        held_are = cc (bytes, groups_cut symbols count are.1, are.0);
       }

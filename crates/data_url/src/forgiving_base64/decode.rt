@@ -4,7 +4,7 @@ ghost use Rattle.std.specs.Prelude.{◌≡◌, ◌%◌, ◌≤◌, Err, length, 
 
 use super::alphabet::{decode_block, group_of, is_of_symbols};
 use super::gaps::spaces_len;
-use super::held::{FULL, HeldGroups};
+use super::held::{FULL, HeldGroups, SHORT};
 use super::left_over::LeftOver;
 use super::{DecodeError, InvalidBase64, InvalidBase64Details};
 use crate::classes::lanes::BLOCK;
@@ -134,8 +134,9 @@ where
         DecodeError::InvalidBase64(InvalidBase64 { details })
     }
 
-    /// Calls the closure with the bytes of each block of 64 symbols that a text begins with. Does nothing if something
-    /// is left over of the text before. Returns how many bytes of the text the blocks take.
+    /// Calls the closure with the bytes of each block of 64 symbols that a text begins with. Skips white space before a
+    /// block and after the last one. Does nothing if the text is shorter than a block, or if something is left over of
+    /// the text before. Returns how many bytes of the text were read.
     #[inline(always)]
     fn read_blocks(&mut self, text: &[u8]) -> Result<usize, DecodeError<E>>
         requires callable { F.IsAlwaysCallable (state_of self.old).closure }
@@ -144,22 +145,26 @@ where
         ensures read { ReadsStart (CalledAt F.FnMut) (state_of self.old) text.now result
             (state_of self.new) }
     {
-        if !self.state.is_between_groups() {
+        if text.len() < BLOCK || !self.state.is_between_groups() {
             return Ok(0);
         }
-        let end = text.len().saturating_sub(BLOCK - 1);
         let mut at = 0;
-        while at < end {
+        while text.len() - at >= BLOCK {
             let block = u8x64::from_slice(&text[at..]);
             if !is_of_symbols(block) {
-                return Ok(at);
+                let spaces = spaces_len(&text[at..]);
+                if spaces == 0 {
+                    return Ok(at);
+                }
+                at += spaces;
+            } else {
+                let mut bytes = [0; BLOCK];
+                decode_block(block).copy_to_slice(&mut bytes);
+                self.write(&bytes[..PIECE])?;
+                at += BLOCK;
             }
-            let mut bytes = [0; BLOCK];
-            decode_block(block).copy_to_slice(&mut bytes);
-            self.write(&bytes[..PIECE])?;
-            at += BLOCK;
         }
-        Ok(at)
+        Ok(at + spaces_len(&text[at..]))
     }
 
     /// Feeds a text up to its first fault, and holds the bytes of its groups until there are 64. The bytes of a short
@@ -177,12 +182,11 @@ where
         ensures read { ReadsUntilFault (CalledAt F.FnMut) (state_of self.old) text.now result
             (state_of self.new) }
     {
-        let mut front = [0; BLOCK];
+        let mut front = [0; SHORT];
         let mut len = 0;
         let mut at = 0;
         if text.len() < BLOCK {
-            (at, len) = self.state.decode_symbols(text, &mut front);
-            at += spaces_len(&text[at..]);
+            (at, len) = self.state.decode_short(text, &mut front);
             if at == text.len() {
                 if len == 0 {
                     return Ok((at, None));

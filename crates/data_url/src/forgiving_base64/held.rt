@@ -2,18 +2,22 @@
 
 ghost use Rattle.std.specs.Prelude.{◌≡◌, ◌%◌, ◌+◌, ◌≤◌, ◌<◌, ◌++◌, [], drop, length, take};
 
-use crate::classes::lanes::{BLOCK, put, row};
+use crate::classes::lanes::{put, row};
 
 /// How many bytes are held before the closure is called: those of 64 groups. If it were called after 16 groups,
 /// decoding lines of 76 symbols would take a fifth longer.
 pub(crate) const FULL: usize = 192;
 
-/// The bytes of up to 64 groups, and of up to twelve groups of the symbols that were added last.
+/// The size of a buffer for the bytes of a text that is shorter than a block: those of up to sixteen groups, and then
+/// bytes that are of no use.
+pub(crate) const SHORT: usize = 80;
+
+/// The bytes of up to 64 groups, and of up to fifteen groups of the symbols that were added last.
 #[derive(Drop)]
 pub(crate) struct HeldGroups {
     pub(super) bytes: [u8; 256],
     pub(crate) len: usize,
-    ghost within: { len < 228 },
+    ghost within: { len < 240 },
     ghost whole: { len % 3 ≡ 0 },
     ghost sized: { length bytes ≡ 256 },
 }
@@ -33,17 +37,17 @@ impl HeldGroups {
         }
     }
 
-    /// Holds the first `len` bytes of a block in place of what was held.
+    /// Holds the first `len` bytes of a short text in place of what was held.
     #[inline(always)]
-    pub(crate) fn hold(&mut self, block: &[u8; BLOCK], len: usize)
+    pub(crate) fn hold(&mut self, short: &[u8; SHORT], len: usize)
         requires few { len ≤ 48 }
         requires whole { len % 3 ≡ 0 }
-        ensures bytes { held_bytes self.new ≡ take len block.now }
+        ensures bytes { held_bytes self.new ≡ take len short.now }
         ensures len { self.new.len ≡ len }
     {
-        put(&mut self.bytes, 0, row(block, 0));
-        put(&mut self.bytes, 16, row(block, 16));
-        put(&mut self.bytes, 32, row(block, 32));
+        put(&mut self.bytes, 0, row(short, 0));
+        put(&mut self.bytes, 16, row(short, 16));
+        put(&mut self.bytes, 32, row(short, 32));
         self.len = len;
     }
 

@@ -1,7 +1,7 @@
 //! Decodes the groups of a text of base64 (RFC 4648, section 4), in rows of sixteen bytes. White space, `=` and faults
 //! that the rows do not pass over are read byte by byte.
 
-ghost use Rattle.std.specs.Prelude.{◌≡◌, ◌<◌, ◌≤◌, ◌++◌, ◌-◌, ◌*◌, ◌/◌, ◌%◌, IsTrue, MatchOption, MatchResult};
+ghost use Rattle.std.specs.Prelude.{◌≡◌, ◌<◌, ◌≤◌, ◌++◌, ◌+◌, ◌-◌, ◌*◌, ◌/◌, ◌%◌, IsTrue, MatchOption, MatchResult, []};
 ghost use Rattle.std.specs.Prelude.{drop, length, replicate, slice_index, take};
 ghost use Rattle.std.specs.List.{list_all};
 ghost use Rattle.data_url.specs.Base64.{is_symbol};
@@ -10,8 +10,9 @@ use super::InvalidBase64Details;
 use super::alphabet::{decode_row, is_of_symbols, is_symbol, symbols_ahead};
 use super::gaps::{
     before_partial, decode_unit, pack_rows, pack_spaced, row_over_gap, spaces_after_twelve,
+    spaces_len,
 };
-use super::held::{FULL, HeldGroups};
+use super::held::{FULL, HeldGroups, SHORT};
 use super::left_over::LeftOver;
 use crate::classes::lanes::{BLOCK, ROW, first_row, put, repeated, rotated, row, spliced};
 use std::simd::prelude::*;
@@ -19,9 +20,8 @@ use std::simd::prelude::*;
 impl HeldGroups {
     ghost use Rattle.data_url.specs.Steps.Groups.{AddsGroups, held_bytes};
 
-    /// Decodes the groups that a text of sixteen bytes or more begins with, and adds their bytes. Skips white space.
-    /// It may stop before the last fifteen bytes. Returns how many bytes of the text were decoded: none of a shorter
-    /// text.
+    /// Decodes the groups that a text begins with, and adds their bytes. Skips white space. It may stop before the last
+    /// fifteen bytes. Returns how many bytes of the text were decoded.
     #[inline(always)]
     pub(crate) fn decode_ahead(&mut self, text: &[u8]) -> usize
         requires room { self.old.len < 192 }
@@ -29,9 +29,6 @@ impl HeldGroups {
         ensures added { AddsGroups (held_bytes self.old) (take result text.now)
             (held_bytes self.new) }
     {
-        if text.len() < ROW {
-            return 0;
-        }
         let taken = self.decode_rows(text);
         if self.len >= FULL || text.len() - taken < ROW {
             return taken;
@@ -125,8 +122,9 @@ impl LeftOver {
     fn keep_after_groups(&mut self, row: u8x16, count: usize)
         requires few { count ≤ 16 }
         requires symbols { IsTrue (list_all is_symbol (take count row)) }
-        ensures { left_state self.new ≡ record (left_state self.old)
+        ensures left { left_state self.new ≡ record (left_state self.old)
             { symbols = drop (count / 4 * 4) (take count row) } }
+        ensures pending { self.new.pending ≡ count % 4 }
     {
         self.pending = count % 4;
         if count % 4 > 0 {
@@ -136,70 +134,100 @@ impl LeftOver {
         }
     }
 
-    /// Reads the symbols that a text begins with, at most 64 together with those left over. Writes the bytes of the
-    /// groups that are complete then to `bytes`, and after them bytes that are of no use. Returns how many symbols of
-    /// the text were read, and how many bytes the groups have.
+    /// Reads the symbols that a text begins with. Writes the bytes of the groups that are complete then to `bytes`, and
+    /// after them bytes that are of no use. Returns how many symbols were read, and how many bytes the groups have.
     #[inline(always)]
-    fn decode_front(&mut self, text: &[u8], bytes: &mut [u8; BLOCK]) -> (usize, usize)
+    fn decode_front(&mut self, text: &[u8], bytes: &mut [u8]) -> (usize, usize)
         requires no_padding { self.old.padding ≡ 0 }
-        ensures sizes { (result.0 ≤ length text.now) × ((result.1 ≤ 48) × (result.1 % 3 ≡ 0)) }
+        requires room { 3 * (self.old.pending + length text.now) + 64 ≤ 4 * length bytes.old }
+        ensures sizes { (result.0 ≤ length text.now) × ((result.1 % 3 ≡ 0) × (self.new.padding ≡ 0)) }
+        ensures size { 4 * result.1 + 3 * self.new.pending ≡ 3 * (self.old.pending + result.0) }
         ensures read { Completes (left_state self.old) (take result.0 text.now)
             (take result.1 bytes.new) (left_state self.new) }
     {
-        let mut row = self.row_with(text);
-        let mut count = symbols_ahead(row);
-        put(bytes, 0, decode_row(row));
-        let mut read = count - self.pending;
+        let mut read = 0;
         let mut len = 0;
-        while count == ROW && len < 36 && read < text.len() {
-            len += 12;
-            row = first_row(&text[read..]);
-            count = symbols_ahead(row);
+        loop {
+            let row = self.row_with(&text[read..]);
+            let count = symbols_ahead(row);
             put(bytes, len, decode_row(row));
-            read += count;
+            read += count - self.pending;
+            if count < ROW || read == text.len() {
+                self.keep_after_groups(row, count);
+                return (read, len + count / 4 * 3);
+            }
+            self.pending = 0;
+            len += 12;
         }
-        self.keep_after_groups(row, count);
-        (read, len + count / 4 * 3)
     }
 
-    /// Reads the symbols that a text begins with, as `decode_front` does. Reads nothing if it begins with another byte,
-    /// or if padding came before it.
+    /// Reads the symbol that a text of up to 64 bytes begins with, and the symbols and the white space after it. Writes
+    /// the bytes of the groups that are complete then to `bytes`, and after them bytes that are of no use. Returns how
+    /// many bytes of the text were read, and how many bytes the groups have.
     #[inline(always)]
-    pub(super) fn decode_symbols(&mut self, text: &[u8], bytes: &mut [u8; BLOCK]) -> (usize, usize)
-        requires some { 1 ≤ length text.now }
+    fn decode_spaced(&mut self, text: &[u8], bytes: &mut [u8]) -> (usize, usize)
+        requires some { (1 ≤ length text.now) × IsTrue (is_symbol (slice_index text.now 0)) }
+        requires few { length text.now ≤ 64 }
+        requires no_padding { self.old.padding ≡ 0 }
+        requires room { 3 * (self.old.pending + length text.now) + 64 ≤ 4 * length bytes.old }
+        ensures sizes { (result.1 % 3 ≡ 0) × (4 * result.1 ≤ 3 * (self.old.pending + result.0)) }
+        ensures read { Gains (left_state self.old) [] text.now result.0 (left_state self.new)
+            (take result.1 bytes.new) }
+    {
+        let mut symbols = [0; 128];
+        symbols[..3].copy_from_slice(&self.symbols);
+        let (packed, read) = pack_spaced(text, &mut symbols[self.pending..]);
+        let count = self.pending + packed;
+        decode_unit(&symbols, count, bytes, 0);
+        self.keep_after_groups(row(&symbols, count / 4 * 4), count % 4);
+        (read, count / 4 * 3)
+    }
+
+    /// Reads the symbols that a text begins with, and the white space after them. Writes the bytes of the groups that
+    /// are complete then to `bytes`, and after them bytes that are of no use. Returns how many bytes of the text were
+    /// read, and how many bytes the groups have.
+    #[inline(always)]
+    fn decode_line(&mut self, text: &[u8], bytes: &mut [u8]) -> (usize, usize)
+        requires no_padding { self.old.padding ≡ 0 }
+        requires room { 3 * (self.old.pending + length text.now) + 64 ≤ 4 * length bytes.old }
+        ensures sizes { (result.0 ≤ length text.now) × ((result.1 % 3 ≡ 0) × (self.new.padding ≡ 0)) }
+        ensures size { 4 * result.1 + 3 * self.new.pending ≤ 3 * (self.old.pending + result.0) }
+        ensures read { Completes (left_state self.old) (take result.0 text.now)
+            (take result.1 bytes.new) (left_state self.new) }
+    {
+        let (read, len) = self.decode_front(text, bytes);
+        (read + spaces_len(&text[read..]), len)
+    }
+
+    /// Reads the symbols and the white space that a short text begins with. It may stop before a line after the first
+    /// one. Writes the bytes of the groups that are complete then to `bytes`, and after them bytes that are of no use.
+    /// Returns how many bytes of the text were read, and how many bytes the groups have. Reads nothing if padding came
+    /// before.
+    #[inline(always)]
+    pub(super) fn decode_short(&mut self, text: &[u8], bytes: &mut [u8; SHORT]) -> (usize, usize)
+        requires few { length text.now < 64 }
         ensures sizes { (result.0 ≤ length text.now) × ((result.1 ≤ 48) × (result.1 % 3 ≡ 0)) }
         ensures read { Completes (left_state self.old) (take result.0 text.now)
             (take result.1 bytes.new) (left_state self.new) }
     {
-        if !is_symbol(text[0]) || self.padding > 0 {
+        if self.padding > 0 {
             return (0, 0);
         }
-        self.decode_front(text, bytes)
-    }
-
-    /// Reads the symbol that a text begins with, and the symbols and the white space after it, up to 48 bytes. Adds the
-    /// bytes of the groups that are complete then. Returns how many bytes of the text were read.
-    #[inline(always)]
-    fn read_spaced(&mut self, text: &[u8], groups: &mut HeldGroups) -> usize
-        requires some { (1 ≤ length text.now) × IsTrue (is_symbol (slice_index text.now 0)) }
-        requires no_padding { self.old.padding ≡ 0 }
-        requires room { groups.old.len < 192 }
-        ensures { Gains (left_state self.old) (held_bytes groups.old) text.now result
-            (left_state self.new) (held_bytes groups.new) }
-    {
-        let mut symbols = [0; 112];
-        symbols[..3].copy_from_slice(&self.symbols);
-        let front = &text[..text.len().min(48)];
-        let (packed, read) = pack_spaced(front, &mut symbols[self.pending..]);
-        let count = self.pending + packed;
-        decode_unit(&symbols, count, &mut groups.bytes, groups.len);
-        groups.len += count / 4 * 3;
-        self.keep_after_groups(row(&symbols, count / 4 * 4), count % 4);
-        read
+        let (at, len) = self.decode_line(text, bytes);
+        if at == text.len() || !is_symbol(text[at]) {
+            return (at, len);
+        }
+        // A rest with a gap shortly before its end is packed, which costs less.
+        let rest = &text[at..];
+        if rest.len() < ROW || !is_of_symbols(repeated(row(rest, rest.len() - ROW))) {
+            return (at, len);
+        }
+        let (read, more) = self.decode_line(rest, &mut bytes[len..]);
+        (at + read, len + more)
     }
 
     /// Reads the symbols that a text begins with, as many as have room in a row after those left over. If another byte
-    /// comes before, reads symbols and white space, as `read_spaced` does. Adds the bytes of the groups that are
+    /// comes before, reads symbols and white space, as `decode_spaced` does. Adds the bytes of the groups that are
     /// complete then. Returns how many bytes of the text were read.
     #[inline(always)]
     fn read_symbols(&mut self, text: &[u8], groups: &mut HeldGroups) -> usize
@@ -213,7 +241,10 @@ impl LeftOver {
         let count = symbols_ahead(row);
         let read = count - self.pending;
         if count < ROW && read < text.len() {
-            return self.read_spaced(text, groups);
+            let front = &text[..text.len().min(BLOCK)];
+            let (read, len) = self.decode_spaced(front, &mut groups.bytes[groups.len..]);
+            groups.len += len;
+            return read;
         }
         put(&mut groups.bytes, groups.len, decode_row(row));
         groups.len += count / 4 * 3;

@@ -111,6 +111,21 @@ fn a_gap_at_each_place_before_each_end(rt: HostRuntime) -> Result<(), Fail> {
     Ok(())
 }
 
+#[test]
+fn a_gap_before_and_after_each_block(rt: HostRuntime) -> Result<(), Fail> {
+    let [symbols, bytes] = SYMBOLS;
+    let block = part_of(symbols, 0, 64);
+    let front = part_of(bytes, 0, 48);
+    for gap in GAPS.as_slice() {
+        let text = format!(in rt.alloc(); "{gap}{block}{gap}{block}{gap}{gap}{symbols}{gap}")?;
+        let about = text.as_str();
+        let record = Source::Base64(&[text.as_bytes()]).record_both(&rt, rt.alloc(), about, 0)?;
+        let all = format!(in rt.alloc(); "{front}{front}{bytes}")?;
+        record.assert_is(&rt, about, all.as_bytes(), "");
+    }
+    Ok(())
+}
+
 /// Asserts what the symbols decode to with each kind of gap at two places.
 fn assert_two_gaps(rt: &impl Abort, alloc: Global, places: [usize; 2]) -> Result<(), AllocError> {
     for gap in GAPS.as_slice() {

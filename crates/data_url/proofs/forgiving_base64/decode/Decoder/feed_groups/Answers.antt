@@ -2,7 +2,7 @@ use Rattle.std.proofs.Common.{[], ◌+◌, ◌∙◌, append-nil, ap, arith, dro
 use Rattle.std.{proofs.Common.{take-append-drop}, proofs.lemmas.Result.{err_from_is_err_and}, specs.Fn.{CalledAt}}
 use Rattle.data_url.specs.{Decoder.{state_of}, Steps.Groups.{held_bytes}}
 use Rattle.data_url.proofs.forgiving_base64.Holding.{ends_within, held_len, reads_called, reads_gained, reads_none}
-use Rattle.data_url.proofs.forgiving_base64.Holding.{reads_on_spaces, reads_refused}
+use Rattle.data_url.proofs.forgiving_base64.Holding.{reads_refused}
 use Rattle.data_url.proofs.forgiving_base64.Holding.{reads_to, reads_whole}
 use Rattle.data_url.proofs.forgiving_base64.Steps.{sound}
 use Rattle.data_url.proofs.forgiving_base64.decode.Decoder.feed_groups.Goals as goal
@@ -10,16 +10,13 @@ use Rattle.data_url.proofs.forgiving_base64.decode.Decoder.feed_groups.Goals as 
 pub loop-at-init : goal.loop-at-init
 loop-at-init g c = elim c.if-text-lt-BLOCK.branch [
   | goal.then-text-lt-BLOCK+else-at-text w ↦
-      let read = w.decode_symbols in
-      let spaces = w.spaces_len-at.ensures in
+      let read = w.decode_short.ensures in
       rw (w.self-is, w.at-is) (record {
         callable = c.requires.callable;
-        within = omega (arith, read.ensures.sizes, spaces.within, length-drop read.result.0 c.args.text.now);
-        few = omega (arith, c.hold.ensures.len, w.len-is, read.ensures.sizes);
-        reads = rw (c.hold.ensures.bytes, w.len-is, w.front-is) (reads_on_spaces (CalledAt g.F.FnMut) c.args.text.now
-            read.result.0 w.spaces_len-at.result (sound read.new.self) (reads_whole (CalledAt g.F.FnMut)
-            {f = c.args.self.now.write_bytes} (sound c.args.self.now.state) c.requires.going read.ensures.read)
-            spaces.spaces);
+        within = omega (arith, read.sizes);
+        few = omega (arith, c.hold.ensures.len, w.len-is, read.sizes);
+        reads = rw (c.hold.ensures.bytes, w.len-is, w.front-is) (reads_whole (CalledAt g.F.FnMut)
+            {f = c.args.self.now.write_bytes} (sound c.args.self.now.state) c.requires.going read.read);
       })
   | goal.else-text-lt-BLOCK w ↦ rw (w.self-is, w.at-is) (record {
     callable = c.requires.callable;
@@ -33,26 +30,22 @@ loop-at-init g c = elim c.if-text-lt-BLOCK.branch [
 pub returns-in_err-write-clause-read : goal.returns-in_err-write-clause-read
 returns-in_err-write-clause-read g c =
     let step = CalledAt g.F.FnMut in
-    let read = c.decode_symbols in
-    let spaces = c.spaces_len-at.ensures in
+    let read = c.decode_short in
     let bytes = take read.result.1 read.new.bytes in
     let p = err_from_is_err_and c.from_residual.result c.from_residual.ensures.1 in
-    let reads = reads_on_spaces step c.args.text.now read.result.0 c.spaces_len-at.result (sound read.new.self)
-    (reads_whole step {f = c.args.self.now.write_bytes} (sound c.args.self.now.state) c.requires.going
-    read.ensures.read) spaces.spaces in
+    let reads = reads_whole step {f = c.args.self.now.write_bytes} (sound c.args.self.now.state) c.requires.going
+    read.ensures.read in
     let long = length-take-le read.result.1 read.new.bytes (omega (arith, read.ensures.sizes)) in
-    rw (p.1, p.2) (ends_within step (read.result.0 + c.spaces_len-at.result)
-    (omega (arith, read.ensures.sizes, spaces.within, length-drop read.result.0 c.args.text.now)) reads
+    rw (p.1, p.2) (ends_within step read.result.0 (omega (arith, read.ensures.sizes)) reads
     (reads_refused step bytes [] (omega (arith, long)) (rw (append-nil bytes) reads) c.in_err-write.ensures.called))
 
 pub returns-then-at-text-clause-read : goal.returns-then-at-text-clause-read
 returns-then-at-text-clause-read g c =
     let step = CalledAt g.F.FnMut in
-    let read = c.decode_symbols in
+    let read = c.decode_short in
     let bytes = take read.result.1 read.new.bytes in
-    let reads = reads_on_spaces step c.args.text.now read.result.0 c.spaces_len-at.result (sound read.new.self)
-    (reads_whole step {f = c.args.self.now.write_bytes} (sound c.args.self.now.state) c.requires.going
-    read.ensures.read) c.spaces_len-at.ensures.spaces in
+    let reads = reads_whole step {f = c.args.self.now.write_bytes} (sound c.args.self.now.state) c.requires.going
+    read.ensures.read in
     let long = length-take-le read.result.1 read.new.bytes (omega (arith, read.ensures.sizes)) in
     record {
       within = omega (arith, c.if-at-text.true);
@@ -139,13 +132,9 @@ returns-in_err-flush-2-clause-read g c =
     (rw (append-nil (held_bytes c.loop-at.groups)) i.reads)))
 
 pub returns-then-len-eq0-clause-read : goal.returns-then-len-eq0-clause-read
-returns-then-len-eq0-clause-read g c =
-    let read = c.decode_symbols in
-    let reads = reads_on_spaces (CalledAt g.F.FnMut) c.args.text.now read.result.0 c.spaces_len-at.result
-    (sound read.new.self) (reads_whole (CalledAt g.F.FnMut) {f = c.args.self.now.write_bytes}
-    (sound c.args.self.now.state) c.requires.going read.ensures.read) c.spaces_len-at.ensures.spaces in
-    record {
-      within = omega (arith, c.if-at-text.true);
-      reads = rw c.if-len-eq0.true at reads;
-      ends = c.if-at-text.true;
-    }
+returns-then-len-eq0-clause-read g c = record {
+  within = omega (arith, c.if-at-text.true);
+  reads = rw c.if-len-eq0.true at (reads_whole (CalledAt g.F.FnMut) {f = c.args.self.now.write_bytes}
+      (sound c.args.self.now.state) c.requires.going c.decode_short.ensures.read);
+  ends = c.if-at-text.true;
+}

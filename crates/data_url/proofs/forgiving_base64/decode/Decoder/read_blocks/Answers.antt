@@ -1,11 +1,12 @@
-use Rattle.std.proofs.Common.{[], append-nil, length-take-le, replicate, sym, take, ◌∙◌, ◌+◌, arith}
+use Rattle.std.proofs.Common.{[], append-nil, length-drop, length-take-le, replicate, sym, take, ◌∙◌, ◌+◌, arith}
 use Rattle.std.{proofs.lemmas.{Result.{err_from_is_err_and}, Simd.{put_chunk_whole}}, specs.Fn.{CalledAt}}
-use Rattle.data_url.proofs.forgiving_base64.Holding.{block_reads, ends_within, reads_called, reads_none, reads_refused}
+use Rattle.data_url.proofs.forgiving_base64.Holding.{block_reads, ends_within, reads_called, reads_none}
+use Rattle.data_url.proofs.forgiving_base64.Holding.{reads_on_spaces, reads_refused}
 use Rattle.data_url.proofs.forgiving_base64.Steps.{sound}
 use Rattle.data_url.proofs.forgiving_base64.decode.Decoder.read_blocks.Goals as goal
 
-pub returns-then-not-is_between_groups-clause-read : goal.returns-then-not-is_between_groups-clause-read
-returns-then-not-is_between_groups-clause-read g c =
+pub returns-then-text-lt-BLOCK-clause-read : goal.returns-then-text-lt-BLOCK-clause-read
+returns-then-text-lt-BLOCK-clause-read g c =
     (omega arith, reads_none (CalledAt g.F.FnMut) (sound c.args.self.now.state) c.requires.going)
 
 pub loop-at-init : goal.loop-at-init
@@ -46,3 +47,24 @@ loop-at-preserved g c =
       within = omega arith;
       reads = reads_called step bytes [] (omega (arith, long)) (rw (append-nil bytes) reads) w;
     }
+
+pub loop-at-preserved-then-not-is_of_symbols : goal.loop-at-preserved-then-not-is_of_symbols
+loop-at-preserved-then-not-is_of_symbols g c =
+    let i = c.loop-at.invariant in
+    let spaces = c.spaces_len-spaces in
+    record {
+      callable = i.callable;
+      between = i.between;
+      within = omega (arith, spaces.ensures.within, i.within, length-drop c.loop-at.at c.args.text.now);
+      reads = reads_on_spaces (CalledAt g.F.FnMut) c.args.text.now c.loop-at.at spaces.result
+          (sound c.loop-at.self.state) i.reads spaces.ensures.spaces;
+    }
+
+pub returns-clause-read : goal.returns-clause-read
+returns-clause-read g c =
+    let i = c.loop-at.invariant in
+    let spaces = c.spaces_len in (
+      omega (arith, spaces.ensures.within, i.within, length-drop c.loop-at.at c.args.text.now),
+      reads_on_spaces (CalledAt g.F.FnMut) c.args.text.now c.loop-at.at spaces.result (sound c.loop-at.self.state)
+          i.reads spaces.ensures.spaces,
+    )

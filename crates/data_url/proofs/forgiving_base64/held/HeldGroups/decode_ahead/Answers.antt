@@ -1,10 +1,7 @@
 use Rattle.std.proofs.Common.{drop, take, take-add}
 use Rattle.std.proofs.lemmas.List.{take_rest}
-use Rattle.data_url.proofs.forgiving_base64.Groups.{adds_nothing, adds_then}
+use Rattle.data_url.proofs.forgiving_base64.Groups.{adds_then}
 use Rattle.data_url.proofs.forgiving_base64.held.HeldGroups.decode_ahead.Goals as goal
-
-pub returns-then-text-lt-ROW-clause-added : goal.returns-then-text-lt-ROW-clause-added
-returns-then-text-lt-ROW-clause-added c = adds_nothing _
 
 pub returns-clause-added : goal.returns-clause-added
 returns-clause-added c =

@@ -7,7 +7,7 @@ returns-clause-bytes c =
     let old = c.args.self.now in
     let new = c.copy_within.new.self in
     let n = old.len - 192 in
-    let few : n ≤ 36 = omega (arith, old.within) in
+    let few : n ≤ 48 = omega (arith, old.within) in
     cc (
       take-take n 48 new (omega arith),
       take-take n 48 (drop 192 old.bytes) (omega arith),

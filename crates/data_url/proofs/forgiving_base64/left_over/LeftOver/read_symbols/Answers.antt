@@ -1,23 +1,35 @@
-use Rattle.std.proofs.Common.{◌*◌, ◌-◌, ◌/◌, ◌∙◌, ap, arith, length-take-le, refl, take}
+use Rattle.std.proofs.Common.{◌*◌, ◌-◌, ◌/◌, ◌∙◌, ap, arith, refl, take}
 use Rattle.std.specs.List.{list_all}
 use Rattle.data_url.specs.{Base64.{is_symbol}, Steps.Holding.{left_state}}
 use Rattle.data_url.proofs.forgiving_base64.Groups.{prefix_passes, put_front}
-use Rattle.data_url.proofs.forgiving_base64.Joined.{fronts_first, gains_front, joins_left, some_read}
+use Rattle.data_url.proofs.forgiving_base64.Holding.{gains_part}
+use Rattle.data_url.proofs.forgiving_base64.Joined.{fronts_first, gains_front, joins_left, left_ahead, some_read}
 use Rattle.data_url.proofs.forgiving_base64.Steps.{sound}
 use Rattle.data_url.proofs.forgiving_base64.left_over.LeftOver.read_symbols.Goals as goal
 
 pub overflow_sub-read : goal.overflow_sub-read
 overflow_sub-read c =
-    let d = c.args.self.now in
-    let is = c.symbols_ahead-count.ensures.starts in
-    let joins = joins_left is_symbol d c.args.text.now c.row_with-row.result refl d.pending_symbols (omega arith)
-    c.row_with-row.ensures is in
-    omega (arith, joins.count, is, length-take-le d.pending d.symbols (omega arith))
+    left_ahead c.args.self.now c.args.text.now c.row_with-row.result (omega arith) c.row_with-row.ensures
+    c.symbols_ahead-count.ensures.starts
 
 pub keep_after_groups-requires-clause-symbols : goal.keep_after_groups-requires-clause-symbols
 keep_after_groups-requires-clause-symbols c =
     ap (λ n. list_all is_symbol (take n c.row_with-row.result)) c.symbols_ahead-count.ensures.starts
     ∙ prefix_passes is_symbol c.row_with-row.result
+
+pub returns-then-read-text : goal.returns-then-read-text
+returns-then-read-text c =
+    let p = c.args.groups.now in
+    let spaced = c.decode_spaced-read in
+    gains_part c.args.text.now p.bytes spaced.new.bytes _ c.min.result spaced.result.0 p.len spaced.result.1
+    (omega (arith, p.sized, p.within)) (omega (
+      arith,
+      spaced.ensures.sizes,
+      spaced.auto.bytes,
+      p.sized,
+      c.requires.room,
+      spaced.ensures.read.within,
+    )) spaced.ensures.read
 
 pub returns : goal.returns
 returns c =
@@ -27,9 +39,9 @@ returns c =
     let row = c.row_with-row.result in
     let n = c.symbols_ahead-count.result in
     let is = c.symbols_ahead-count.ensures.starts in
-    let kept = c.keep_after_groups.ensures in
+    let kept = c.keep_after_groups.ensures.left in
     let front = fronts_first (n - d.pending) n c.decode_row.result
-    (joins_left is_symbol d text row refl d.pending_symbols (omega arith) c.row_with-row.ensures is) is (omega arith)
+    (joins_left d text row (omega arith) c.row_with-row.ensures is) is (omega arith)
     c.decode_row.ensures.bytes refl in
     gains_front (left_state d) (left_state c.keep_after_groups.new.self) text row _ (n - d.pending) n front (sound d)
     c.requires.no_padding refl (ap (λ s. s.symbols) kept) (ap (λ s. s.padding) kept ∙ c.requires.no_padding) refl
