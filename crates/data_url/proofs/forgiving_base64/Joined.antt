@@ -1,5 +1,8 @@
 -- The symbols that are left over, and then those that a text begins with, in one row. For `row_with`, and for what
 -- reads such rows.
+use Rattle.std.proofs.Common.{append_assoc, take-add}
+use Rattle.std.proofs.lemmas.List.{map-append}
+use Rattle.data_url.proofs.forgiving_base64.Vectors.{groups_whole}
 use Rattle.std.proofs.Common.{Bool, filter, List, [], ◌∷◌, ap, append-nil, arith, drop, false, get_or}
 use Rattle.std.proofs.Common.{length, length-append, length-drop, length-take, length-take-le, map, refl, replicate}
 use Rattle.std.proofs.Common.{suc, sym, take}
@@ -17,7 +20,8 @@ use Rattle.data_url.specs.Steps.Groups.{is_symbol_or_space}
 use Rattle.data_url.proofs.classes.FirstRows.{padded_front}
 use Rattle.data_url.proofs.forgiving_base64.Groups.{part_taken, prefix_end, prefix_passes, symbols_alone, symbols_kept}
 use Rattle.data_url.proofs.forgiving_base64.Holding.{completes_spaced}
-use Rattle.data_url.proofs.forgiving_base64.Padding.{after_is, every_list_all, filter_all}
+use Rattle.data_url.proofs.forgiving_base64.Padding.{after_groups-append, after_is, every_list_all, filter_all}
+use Rattle.data_url.proofs.forgiving_base64.Padding.{length-after_groups}
 use Rattle.data_url.proofs.forgiving_base64.{Steps.{IsSound, groups_few}, Vectors.{groups_whole}}
 
 -- the first items of a list, up to three, are the same where only its first three items are kept
@@ -245,6 +249,43 @@ fronts_first {q} {text} {row} read count decoded j ahead long decodes is =
       all = j.all;
       bytes_are = cc (is, decoded_groups row decoded count long few all decodes, symbols);
       left = cc (after_is (take count row), length-take-le count row (omega (arith, few, long)), symbols);
+    }
+
+-- so it is after one row more
+pub fronts_more : {q text row bytes more row' : List ℕ} (read m : ℕ) (decoded : List ℕ)
+    → Fronts q text row bytes read 16 → length row ≡ 16 → row' ≡ take 16 (drop read text ++ replicate 16 0)
+    → m ≡ prefix_len is_symbol row' → length row' ≡ 16 → DecodesFront row' decoded
+    → more ≡ bytes ++ take (m / 4 * 3) decoded → Fronts q text row' more (read + m) m
+fronts_more {q} {text} {row} {bytes} {more} {row'} read m decoded f sized row_is ahead long decodes is =
+    let a = q ++ take read text in
+    let rest = drop read text in
+    let b = take m rest in
+    let all : prefix_len is_symbol row' - 0 ≡ m = omega (arith, ahead) in
+    let j : Joins is_symbol [] rest row' m =
+    rw all at (joins is_symbol [] rest row' 0 refl refl (omega arith) refl row_is) in
+    let g : Fronts [] rest row' (take (m / 4 * 3) decoded) m m = fronts_first m m decoded j ahead long decodes refl in
+    let none : after_groups a ≡ [] =
+    sym f.left ∙ nil_from_length (drop 16 (take 16 row)) (omega (
+      arith,
+      length-drop 16 (take 16 row),
+      length-take-le 16 row (omega (arith, sized)),
+    )) in
+    let whole : length (map symbol_value a) % 4 ≡ 0 =
+    omega (arith, length-map a symbol_value, length-after_groups a, ap length none) in
+    let joined : a ++ b ≡ q ++ take (read + m) text = cc (append_assoc q (take read text) b, take-add read m text) in
+    record {
+      within = omega (arith, f.within, g.within, length-drop read text);
+      in_row = g.in_row;
+      all = cc (sym joined, list_all-append is_symbol a b, f.all, g.all);
+      bytes_are = cc (
+        is,
+        f.bytes_are,
+        g.bytes_are,
+        joined,
+        map-append symbol_value a b,
+        groups_whole (map symbol_value a) (map symbol_value b) whole,
+      );
+      left = cc (g.left, joined, after_groups-append a b, none);
     }
 
 module _ {F : Type 0} (d d' : State F) (text row bytes : List ℕ) (read count : ℕ)

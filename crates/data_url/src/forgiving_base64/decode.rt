@@ -148,28 +148,29 @@ where
         if text.len() < BLOCK || !self.state.is_between_groups() {
             return Ok(0);
         }
+        let last = text.len() - BLOCK;
         let mut at = 0;
-        while text.len() - at >= BLOCK {
+        while at <= last {
             let block = u8x64::from_slice(&text[at..]);
-            if !is_of_symbols(block) {
+            if is_of_symbols(block) {
+                let mut bytes = [0; BLOCK];
+                decode_block(block).copy_to_slice(&mut bytes);
+                self.write(&bytes[..PIECE])?;
+                at += BLOCK;
+            } else {
                 let spaces = spaces_len(&text[at..]);
                 if spaces == 0 {
                     return Ok(at);
                 }
                 at += spaces;
-            } else {
-                let mut bytes = [0; BLOCK];
-                decode_block(block).copy_to_slice(&mut bytes);
-                self.write(&bytes[..PIECE])?;
-                at += BLOCK;
             }
         }
         Ok(at + spaces_len(&text[at..]))
     }
 
-    /// Feeds a text up to its first fault, and holds the bytes of its groups until there are 64. The bytes of a short
-    /// text of symbols alone, and white space after them, are not held. Returns the place of the fault and its kind, or
-    /// the length of the text and None if there is no fault.
+    /// Feeds a text up to its first fault, and holds the bytes of its groups until there are 64. If `decode_short`
+    /// reads the whole text, its bytes are not held. Returns the place of the fault and its kind, or the length of the
+    /// text and None if there is no fault.
     #[inline(always)]
     fn feed_groups(
         &mut self,
@@ -197,12 +198,13 @@ where
         }
         let mut groups = HeldGroups::new();
         groups.hold(&front, len);
-        while at < text.len() {
+        let mut fault = None;
+        'groups: while at < text.len() {
             match self.state.read_groups_or_byte(&text[at..], &mut groups) {
                 Ok(taken) => at += taken,
                 Err(details) => {
-                    self.flush(groups.as_slice())?;
-                    return Ok((at, Some(details)));
+                    fault = Some(details);
+                    break 'groups;
                 }
             }
             if groups.len >= FULL {
@@ -211,7 +213,7 @@ where
             }
         }
         self.flush(groups.as_slice())?;
-        Ok((at, None))
+        Ok((at, fault))
     }
 
     /// Feeds a text up to its first fault: calls the closure with the bytes of the groups before it. Returns the place

@@ -134,6 +134,25 @@ impl LeftOver {
         }
     }
 
+    /// Reads the symbols that a text begins with, as many as have room in a row after those left over. Writes the bytes
+    /// of the groups that are complete then to `bytes`, and after them bytes that are of no use. Returns how many
+    /// symbols were read, and how many bytes the groups have.
+    #[inline(always)]
+    fn decode_first_row(&mut self, text: &[u8], bytes: &mut [u8]) -> (usize, usize)
+        requires no_padding { self.old.padding ≡ 0 }
+        requires room { 16 ≤ length bytes.old }
+        ensures sizes { (result.0 ≤ length text.now) × ((result.1 ≤ 12) × (result.1 % 3 ≡ 0)) }
+        ensures read { Completes (left_state self.old) (take result.0 text.now)
+            (take result.1 bytes.new) (left_state self.new) }
+    {
+        let row = self.row_with(text);
+        let count = symbols_ahead(row);
+        let taken = count - self.pending;
+        put(bytes, 0, decode_row(row));
+        self.keep_after_groups(row, count);
+        (taken, count / 4 * 3)
+    }
+
     /// Reads the symbols that a text begins with. Writes the bytes of the groups that are complete then to `bytes`, and
     /// after them bytes that are of no use. Returns how many symbols were read, and how many bytes the groups have.
     #[inline(always)]
@@ -145,20 +164,20 @@ impl LeftOver {
         ensures read { Completes (left_state self.old) (take result.0 text.now)
             (take result.1 bytes.new) (left_state self.new) }
     {
-        let mut read = 0;
+        let mut row = self.row_with(text);
+        let mut count = symbols_ahead(row);
+        put(bytes, 0, decode_row(row));
+        let mut read = count - self.pending;
         let mut len = 0;
-        loop {
-            let row = self.row_with(&text[read..]);
-            let count = symbols_ahead(row);
-            put(bytes, len, decode_row(row));
-            read += count - self.pending;
-            if count < ROW || read == text.len() {
-                self.keep_after_groups(row, count);
-                return (read, len + count / 4 * 3);
-            }
-            self.pending = 0;
+        while count == ROW && read < text.len() {
             len += 12;
+            row = first_row(&text[read..]);
+            count = symbols_ahead(row);
+            put(bytes, len, decode_row(row));
+            read += count;
         }
+        self.keep_after_groups(row, count);
+        (read, len + count / 4 * 3)
     }
 
     /// Reads the symbol that a text of up to 64 bytes begins with, and the symbols and the white space after it. Writes
@@ -183,26 +202,11 @@ impl LeftOver {
         (read, count / 4 * 3)
     }
 
-    /// Reads the symbols that a text begins with, and the white space after them. Writes the bytes of the groups that
-    /// are complete then to `bytes`, and after them bytes that are of no use. Returns how many bytes of the text were
-    /// read, and how many bytes the groups have.
-    #[inline(always)]
-    fn decode_line(&mut self, text: &[u8], bytes: &mut [u8]) -> (usize, usize)
-        requires no_padding { self.old.padding ≡ 0 }
-        requires room { 3 * (self.old.pending + length text.now) + 64 ≤ 4 * length bytes.old }
-        ensures sizes { (result.0 ≤ length text.now) × ((result.1 % 3 ≡ 0) × (self.new.padding ≡ 0)) }
-        ensures size { 4 * result.1 + 3 * self.new.pending ≤ 3 * (self.old.pending + result.0) }
-        ensures read { Completes (left_state self.old) (take result.0 text.now)
-            (take result.1 bytes.new) (left_state self.new) }
-    {
-        let (read, len) = self.decode_front(text, bytes);
-        (read + spaces_len(&text[read..]), len)
-    }
-
-    /// Reads the symbols and the white space that a short text begins with. It may stop before a line after the first
-    /// one. Writes the bytes of the groups that are complete then to `bytes`, and after them bytes that are of no use.
-    /// Returns how many bytes of the text were read, and how many bytes the groups have. Reads nothing if padding came
-    /// before.
+    /// Reads the symbols that a short text begins with, and the white space after them. If the text and what is left
+    /// over are longer than a row, goes on in this way until there are fewer than twelve symbols before the white
+    /// space, or none after it. Writes the bytes of the groups that are complete then to `bytes`, and after them bytes
+    /// that are of no use. Returns how many bytes of the text were read, and how many bytes the groups have. Reads
+    /// nothing if padding came before.
     #[inline(always)]
     pub(super) fn decode_short(&mut self, text: &[u8], bytes: &mut [u8; SHORT]) -> (usize, usize)
         requires few { length text.now < 64 }
@@ -210,20 +214,25 @@ impl LeftOver {
         ensures read { Completes (left_state self.old) (take result.0 text.now)
             (take result.1 bytes.new) (left_state self.new) }
     {
+        let mut at = 0;
+        let mut len = 0;
         if self.padding > 0 {
-            return (0, 0);
-        }
-        let (at, len) = self.decode_line(text, bytes);
-        if at == text.len() || !is_symbol(text[at]) {
             return (at, len);
         }
-        // A rest with a gap shortly before its end is packed, which costs less.
-        let rest = &text[at..];
-        if rest.len() < ROW || !is_of_symbols(repeated(row(rest, rest.len() - ROW))) {
-            return (at, len);
+        if self.pending + text.len() <= ROW {
+            let (taken, len) = self.decode_first_row(text, bytes);
+            return (taken + spaces_len(&text[taken..]), len);
         }
-        let (read, more) = self.decode_line(rest, &mut bytes[len..]);
-        (at + read, len + more)
+        loop {
+            let (read, more) = self.decode_front(&text[at..], &mut bytes[len..]);
+            len += more;
+            at += read;
+            at += spaces_len(&text[at..]);
+            // Shorter lines are packed, which costs less.
+            if at == text.len() || read < 12 || !is_symbol(text[at]) {
+                return (at, len);
+            }
+        }
     }
 
     /// Reads the symbols that a text begins with, as many as have room in a row after those left over. If another byte

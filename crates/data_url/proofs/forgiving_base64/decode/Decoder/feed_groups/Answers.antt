@@ -1,4 +1,5 @@
-use Rattle.std.proofs.Common.{[], ◌+◌, ◌∙◌, append-nil, ap, arith, drop, length, length-drop, length-take-le, sym, take}
+use Rattle.std.proofs.Common.{[], ◌+◌, ◌∙◌, append-nil, ap, arith, drop, length, length-drop, length-take-le, refl, sym}
+use Rattle.std.proofs.Common.{take}
 use Rattle.std.{proofs.Common.{take-append-drop}, proofs.lemmas.Result.{err_from_is_err_and}, specs.Fn.{CalledAt}}
 use Rattle.data_url.specs.{Decoder.{state_of}, Steps.Groups.{held_bytes}}
 use Rattle.data_url.proofs.forgiving_base64.Holding.{ends_within, held_len, reads_called, reads_gained, reads_none}
@@ -7,14 +8,15 @@ use Rattle.data_url.proofs.forgiving_base64.Holding.{reads_to, reads_whole}
 use Rattle.data_url.proofs.forgiving_base64.Steps.{sound}
 use Rattle.data_url.proofs.forgiving_base64.decode.Decoder.feed_groups.Goals as goal
 
-pub loop-at-init : goal.loop-at-init
-loop-at-init g c = elim c.if-text-lt-BLOCK.branch [
+pub groups-init : goal.groups-init
+groups-init g c = elim c.if-text-lt-BLOCK.branch [
   | goal.then-text-lt-BLOCK+else-at-text w ↦
       let read = w.decode_short.ensures in
       rw (w.self-is, w.at-is) (record {
         callable = c.requires.callable;
         within = omega (arith, read.sizes);
         few = omega (arith, c.hold.ensures.len, w.len-is, read.sizes);
+        none = refl;
         reads = rw (c.hold.ensures.bytes, w.len-is, w.front-is) (reads_whole (CalledAt g.F.FnMut)
             {f = c.args.self.now.write_bytes} (sound c.args.self.now.state) c.requires.going read.read);
       })
@@ -22,6 +24,7 @@ loop-at-init g c = elim c.if-text-lt-BLOCK.branch [
     callable = c.requires.callable;
     within = omega arith;
     few = omega (arith, c.hold.ensures.len, w.len-is);
+    none = refl;
     reads = rw (c.hold.ensures.bytes, w.len-is) (reads_none (CalledAt g.F.FnMut) (sound c.args.self.now.state)
         c.requires.going);
   })
@@ -54,82 +57,53 @@ returns-then-at-text-clause-read g c =
       ends = c.if-at-text.true;
     }
 
-pub returns-in_err-flush-in-Err-clause-read : goal.returns-in_err-flush-in-Err-clause-read
-returns-in_err-flush-in-Err-clause-read g c =
-    let p = err_from_is_err_and c.from_residual-in_err-flush-in-Err.result
-    c.from_residual-in_err-flush-in-Err.ensures.1 in
-    let stays = c.in-Err.ensures.0.stays in
-    let i = c.loop-at.invariant in
-    let flushed = rw (c.as_slice.ensures, ap (λ s. s.symbols) stays, ap (λ s. s.padding) stays, c.in-Err.ensures.1) at
-    c.in_err-flush-in-Err.ensures.flushed in
-    rw (p.1, p.2) (ends_within (CalledAt g.F.FnMut) c.loop-at.at i.within i.reads
-    (flushed (state_of c.args.self.now) (take c.loop-at.at c.args.text.now) []
-    (rw (append-nil (held_bytes c.loop-at.groups)) i.reads)))
-
-pub returns-in-Err-clause-read : goal.returns-in-Err-clause-read
-returns-in-Err-clause-read g c =
-    let stays = c.in-Err.ensures.0.stays in
-    let i = c.loop-at.invariant in
-    let flushed = rw (c.as_slice.ensures, ap (λ s. s.symbols) stays, ap (λ s. s.padding) stays, c.in-Err.ensures.1) at
-    c.in_ok-flush-in-Err.ensures.flushed in
-    reads_to (CalledAt g.F.FnMut) c.args.text.now c.loop-at.at c.loop-at-test.true i.reads
-    (flushed (state_of c.args.self.now) (take c.loop-at.at c.args.text.now) []
-    (rw (append-nil (held_bytes c.loop-at.groups)) i.reads)) c.in-Err.ensures.0
-
 pub slice_bounds-flush-end : goal.slice_bounds-flush-end
 slice_bounds-flush-end g c =
-    let size = ap length c.as_slice-then-groups-ge-FULL.ensures ∙ held_len c.read_groups_or_byte.new.groups in
+    let size = ap length c.as_slice.ensures ∙ held_len c.read_groups_or_byte.new.groups in
     sym (length-take-le 192 _ (omega (arith, size)))
 
-pub flush-requires-then-groups-ge-FULL-clause-whole : goal.flush-requires-then-groups-ge-FULL-clause-whole
-flush-requires-then-groups-ge-FULL-clause-whole g c = omega (arith, slice_bounds-flush-end g c)
+pub flush-requires-clause-whole : goal.flush-requires-clause-whole
+flush-requires-clause-whole g c = omega (arith, slice_bounds-flush-end g c)
 
 pub returns-in_err-flush-clause-read : goal.returns-in_err-flush-clause-read
 returns-in_err-flush-clause-read g c =
     let step = CalledAt g.F.FnMut in
     let bytes = held_bytes c.read_groups_or_byte.new.groups in
-    let reads = reads_gained step c.args.text.now c.loop-at.at c.in-Ok.taken c.loop-at.invariant.reads
+    let reads = reads_gained step c.args.text.now c.groups.at c.in-Ok.taken c.groups.invariant.reads
     c.in-Ok.ensures in
-    let flushed = rw c.as_slice-then-groups-ge-FULL.ensures at c.in_err-flush.ensures.flushed in
+    let flushed = rw c.as_slice.ensures at c.in_err-flush.ensures.flushed in
     let p = err_from_is_err_and c.from_residual-in_err-flush.result c.from_residual-in_err-flush.ensures.1 in
-    rw (p.1, p.2) (ends_within (CalledAt g.F.FnMut) (c.loop-at.at + c.in-Ok.taken)
-    (omega (arith, c.in-Ok.ensures.within, length-drop c.loop-at.at c.args.text.now)) reads
-    (flushed (state_of c.args.self.now) (take (c.loop-at.at + c.in-Ok.taken) c.args.text.now) (drop 192 bytes)
+    rw (p.1, p.2) (ends_within (CalledAt g.F.FnMut) (c.groups.at + c.in-Ok.taken)
+    (omega (arith, c.in-Ok.ensures.within, length-drop c.groups.at c.args.text.now)) reads
+    (flushed (state_of c.args.self.now) (take (c.groups.at + c.in-Ok.taken) c.args.text.now) (drop 192 bytes)
     (rw (take-append-drop 192 bytes) reads)))
 
-pub loop-at-preserved-then-groups-ge-FULL : goal.loop-at-preserved-then-groups-ge-FULL
-loop-at-preserved-then-groups-ge-FULL g c =
+pub groups-preserved-then-groups-ge-FULL : goal.groups-preserved-then-groups-ge-FULL
+groups-preserved-then-groups-ge-FULL g c =
     let text = c.args.text.now in
-    let n = c.loop-at.at + c.in-Ok.taken in
+    let n = c.groups.at + c.in-Ok.taken in
     let held = c.read_groups_or_byte.new.groups in
     let bytes = held_bytes held in
-    let flushed = rw c.as_slice-then-groups-ge-FULL.ensures at c.in_ok-flush.ensures.flushed in
+    let flushed = rw c.as_slice.ensures at c.in_ok-flush.ensures.flushed in
     record {
       callable = c.in_ok-flush.ensures.callable;
-      within = omega (arith, c.in-Ok.ensures.within, length-drop c.loop-at.at text);
+      within = omega (arith, c.in-Ok.ensures.within, length-drop c.groups.at text);
       few = omega (arith, c.drop_first.ensures.len, held.within);
+      none = c.groups.invariant.none;
       reads = rw c.drop_first.ensures.bytes (flushed (state_of c.args.self.now) (take n text) (drop 192 bytes)
-          (rw (take-append-drop 192 bytes) (reads_gained (CalledAt g.F.FnMut) text c.loop-at.at c.in-Ok.taken
-          c.loop-at.invariant.reads c.in-Ok.ensures)));
+          (rw (take-append-drop 192 bytes) (reads_gained (CalledAt g.F.FnMut) text c.groups.at c.in-Ok.taken
+          c.groups.invariant.reads c.in-Ok.ensures)));
     }
 
-pub loop-at-preserved : goal.loop-at-preserved
-loop-at-preserved g c = record {
-  callable = c.loop-at.invariant.callable;
-  within = omega (arith, c.in-Ok.ensures.within, length-drop c.loop-at.at c.args.text.now);
+pub groups-preserved : goal.groups-preserved
+groups-preserved g c = record {
+  callable = c.groups.invariant.callable;
+  within = omega (arith, c.in-Ok.ensures.within, length-drop c.groups.at c.args.text.now);
   few = omega arith;
-  reads = reads_gained (CalledAt g.F.FnMut) c.args.text.now c.loop-at.at c.in-Ok.taken
-      c.loop-at.invariant.reads c.in-Ok.ensures;
+  none = c.groups.invariant.none;
+  reads = reads_gained (CalledAt g.F.FnMut) c.args.text.now c.groups.at c.in-Ok.taken
+      c.groups.invariant.reads c.in-Ok.ensures;
 }
-
-pub returns-in_err-flush-2-clause-read : goal.returns-in_err-flush-2-clause-read
-returns-in_err-flush-2-clause-read g c =
-    let p = err_from_is_err_and c.from_residual-in_err-flush-2.result c.from_residual-in_err-flush-2.ensures.1 in
-    let i = c.loop-at.invariant in
-    let flushed = rw c.as_slice-2.ensures at c.in_err-flush-2.ensures.flushed in
-    rw (p.1, p.2) (ends_within (CalledAt g.F.FnMut) c.loop-at.at i.within i.reads
-    (flushed (state_of c.args.self.now) (take c.loop-at.at c.args.text.now) []
-    (rw (append-nil (held_bytes c.loop-at.groups)) i.reads)))
 
 pub returns-then-len-eq0-clause-read : goal.returns-then-len-eq0-clause-read
 returns-then-len-eq0-clause-read g c = record {
@@ -138,3 +112,55 @@ returns-then-len-eq0-clause-read g c = record {
       (sound c.args.self.now.state) c.requires.going c.decode_short.ensures.read);
   ends = c.if-at-text.true;
 }
+
+pub returns-in_err-flush-2-clause-read : goal.returns-in_err-flush-2-clause-read
+returns-in_err-flush-2-clause-read g c =
+    let p = err_from_is_err_and c.from_residual-in_err-flush-2.result c.from_residual-in_err-flush-2.ensures.1 in
+    let i = c.groups.invariant in
+    let flushed = rw c.as_slice-2.ensures at c.in_err-flush-2.ensures.flushed in
+    rw (p.1, p.2) (elim c.groups-test.branch [
+      | goal.else-groups-test w ↦
+          let feeds = rw (w.groups-is, w.self-is) at flushed in
+          ends_within (CalledAt g.F.FnMut) c.groups.at i.within i.reads (feeds (state_of c.args.self.now)
+          (take c.groups.at c.args.text.now) []
+          (rw (append-nil (held_bytes c.groups.groups)) i.reads))
+      | goal.then-groups-test+in-Err w ↦
+          let stays = w.in-Err.ensures.0.stays in
+          let feeds = rw (
+            w.groups-is,
+            w.self-is,
+            ap (λ s. s.symbols) stays,
+            ap (λ s. s.padding) stays,
+            w.in-Err.ensures.1,
+          ) at flushed in
+          ends_within (CalledAt g.F.FnMut) c.groups.at i.within i.reads (feeds (state_of c.args.self.now)
+          (take c.groups.at c.args.text.now) []
+          (rw (append-nil (held_bytes c.groups.groups)) i.reads))
+    ])
+
+pub returns-clause-read : goal.returns-clause-read
+returns-clause-read g c =
+    let i = c.groups.invariant in
+    let flushed = rw c.as_slice-2.ensures at c.in_ok-flush-2.ensures.flushed in
+    elim c.groups-test.branch [
+      | goal.else-groups-test w ↦
+          let reads = rw (w.groups-is, w.self-is) at flushed in
+          rw (w.fault-is, i.none) (record {
+            within = i.within;
+            reads = reads (state_of c.args.self.now) (take c.groups.at c.args.text.now) []
+                (rw (append-nil (held_bytes c.groups.groups)) i.reads);
+            ends = omega (arith, w.groups-test.false, i.within);
+          })
+      | goal.then-groups-test+in-Err w ↦
+          let stays = w.in-Err.ensures.0.stays in
+          let reads = rw (
+            w.groups-is,
+            w.self-is,
+            ap (λ s. s.symbols) stays,
+            ap (λ s. s.padding) stays,
+            w.in-Err.ensures.1,
+          ) at flushed in
+          rw w.fault-is (reads_to (CalledAt g.F.FnMut) c.args.text.now c.groups.at w.groups-test.true i.reads
+          (reads (state_of c.args.self.now) (take c.groups.at c.args.text.now) []
+          (rw (append-nil (held_bytes c.groups.groups)) i.reads)) w.in-Err.ensures.0)
+    ]

@@ -23,7 +23,7 @@ returns-in_err-write-clause-read g c =
     let p = err_from_is_err_and c.from_residual.result c.from_residual.ensures.1 in
     let i = c.loop-at.invariant in
     let reads = block_reads step c.args.text.now c.loop-at.at i.between (omega arith)
-    (sym c.if-not-is_of_symbols.false ∙ c.is_of_symbols.ensures) c.decode_block.ensures.bytes i.reads in
+    (sym c.if-is_of_symbols.true ∙ c.is_of_symbols.ensures) c.decode_block.ensures.bytes i.reads in
     let bytes = take 48 c.decode_block.result in
     let long = length-take-le 48 c.decode_block.result (omega (arith, c.decode_block.ensures.len)) in
     rw (p.1, p.2) (ends_within step (c.loop-at.at + 64) (omega arith) reads
@@ -31,14 +31,14 @@ returns-in_err-write-clause-read g c =
     (rw (put_chunk_whole (replicate 64 0) c.decode_block.result (sym c.decode_block.ensures.len)) at
     c.in_err-write.ensures.called)))
 
-pub loop-at-preserved : goal.loop-at-preserved
-loop-at-preserved g c =
+pub loop-at-preserved-then-is_of_symbols : goal.loop-at-preserved-then-is_of_symbols
+loop-at-preserved-then-is_of_symbols g c =
     let step = CalledAt g.F.FnMut in
     let i = c.loop-at.invariant in
     let w = rw (put_chunk_whole (replicate 64 0) c.decode_block.result (sym c.decode_block.ensures.len)) at
     c.in_ok-write.ensures.called in
     let reads = block_reads step c.args.text.now c.loop-at.at i.between (omega arith)
-    (sym c.if-not-is_of_symbols.false ∙ c.is_of_symbols.ensures) c.decode_block.ensures.bytes i.reads in
+    (sym c.if-is_of_symbols.true ∙ c.is_of_symbols.ensures) c.decode_block.ensures.bytes i.reads in
     let bytes = take 48 c.decode_block.result in
     let long = length-take-le 48 c.decode_block.result (omega (arith, c.decode_block.ensures.len)) in
     record {
@@ -48,8 +48,8 @@ loop-at-preserved g c =
       reads = reads_called step bytes [] (omega (arith, long)) (rw (append-nil bytes) reads) w;
     }
 
-pub loop-at-preserved-then-not-is_of_symbols : goal.loop-at-preserved-then-not-is_of_symbols
-loop-at-preserved-then-not-is_of_symbols g c =
+pub loop-at-preserved : goal.loop-at-preserved
+loop-at-preserved g c =
     let i = c.loop-at.invariant in
     let spaces = c.spaces_len-spaces in
     record {

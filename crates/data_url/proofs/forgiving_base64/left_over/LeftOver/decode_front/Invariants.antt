@@ -1,17 +1,17 @@
 -- The symbols of the rows so far are read.
-use Rattle.std.proofs.Common.{◌*◌, ◌+◌, ◌-◌, ◌≡◌, ◌≤◌, ◌%◌, length, take}
-use Rattle.data_url.specs.Steps.Holding.{Completes, left_state}
+use Rattle.std.proofs.Common.{◌*◌, ◌+◌, ◌-◌, ◌/◌, ◌≡◌, ◌≤◌, ◌%◌, length, take}
+use Rattle.data_url.proofs.forgiving_base64.Joined.{Fronts}
 use Rattle.data_url.proofs.forgiving_base64.left_over.LeftOver.decode_front.Given as goal
 
-abbrev pub invariant-loop-row : goal.invariant-loop-row
-invariant-loop-row l = record {
-  three : length l.self.symbols ≡ 3;
-  within : l.read ≤ length l.text;
-  whole : l.len % 3 ≡ 0;
-  no_padding : l.self.padding ≡ 0;
-  size : 4 * l.len + 3 * l.self.pending ≡ 3 * (l.fn.self.pending + l.read);
-  completes : Completes (left_state l.fn.self) (take l.read l.text) (take l.len l.bytes) (left_state l.self);
+-- the row that was decoded last has the last symbols
+abbrev pub invariant-loop-count : goal.invariant-loop-count
+invariant-loop-count l = record {
+  few : (l.count ≤ 16) × (l.len % 12 ≡ 0);
+  size : 4 * l.len + 3 * l.count ≡ 3 * (l.fn.self.pending + l.read);
+  long : length l.row ≡ 16;
+  fronts : Fronts (take l.fn.self.pending l.fn.self.symbols) l.text l.row
+      (take (l.len + l.count / 4 * 3) l.bytes) l.read l.count;
 }
 
-abbrev pub decreases-loop-row : goal.decreases-loop-row
-decreases-loop-row l = length l.text - l.read
+abbrev pub decreases-loop-count : goal.decreases-loop-count
+decreases-loop-count l = length l.text - l.read + l.count

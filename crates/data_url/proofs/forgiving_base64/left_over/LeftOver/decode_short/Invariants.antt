@@ -1,0 +1,16 @@
+-- The symbols and the white space so far are read.
+use Rattle.std.proofs.Common.{◌*◌, ◌+◌, ◌-◌, ◌≡◌, ◌≤◌, ◌%◌, length, take}
+use Rattle.data_url.specs.Steps.Holding.{Completes, left_state}
+use Rattle.data_url.proofs.forgiving_base64.left_over.LeftOver.decode_short.Given as goal
+
+abbrev pub invariant-loop-at : goal.invariant-loop-at
+invariant-loop-at l = record {
+  within : l.at ≤ length l.text;
+  whole : l.len % 3 ≡ 0;
+  no_padding : l.self.padding ≡ 0;
+  size : 4 * l.len + 3 * l.self.pending ≤ 3 * (l.fn.self.pending + l.at);
+  completes : Completes (left_state l.fn.self) (take l.at l.text) (take l.len l.bytes) (left_state l.self);
+}
+
+abbrev pub decreases-loop-at : goal.decreases-loop-at
+decreases-loop-at l = length l.text - l.at
