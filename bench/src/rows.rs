@@ -138,6 +138,9 @@ fn push_base64(table: &mut Table) {
             base64(numbers, len, Lines::NONE)
         });
     }
+    table.push_feed("padded 22", |numbers| {
+        [&base64(numbers, 22, Lines::NONE)[..], b"=="].concat()
+    });
     for len in [22, 64, 256] {
         table.push_feed(&format!("one newline {len}"), move |numbers| {
             let lines = Lines::of(0, "\n").after(len / 3 + numbers.below(len / 3));

@@ -64,7 +64,7 @@ all_before p t n to all l =
     sym (ap (list_all p) (take-take to n t l)) ∙ parts.0
 
 -- a text of white space has no symbols, and only symbols and white space
-spaces_only : (t : List ℕ) → list_all is_ascii_whitespace t ≡ true
+pub spaces_only : (t : List ℕ) → list_all is_ascii_whitespace t ≡ true
     → (filter is_symbol t ≡ []) × (list_all is_symbol_or_space t ≡ true)
 spaces_only [] h = (refl, refl)
 spaces_only (c ∷ t) h =

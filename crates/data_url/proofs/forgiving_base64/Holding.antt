@@ -180,6 +180,12 @@ module _ {F : Type 0} where
       → Completes d1 (take n (take (length s - at) (drop at s))) b d2 → Completes d (take (at + n) s) (a ++ b) d2
   completes_more s at n f g = rw (sym (taken_more s at n)) (completes_then f g)
 
+  -- so it is with one byte more that completes no group
+  pub completes_byte : {d d1 d2 : State F} {a : List ℕ} (s : List ℕ) (at : ℕ) → at < length s
+      → Completes d (take at s) a d1 → Completes d1 (get_or s at 0 ∷ []) [] d2 → Completes d (take (at + 1) s) a d2
+  completes_byte {a = a} s at within f g =
+      rw (take_more s at 0 within) (rw (append-nil a) at (completes_then f g))
+
   -- white space is read
   completes_spaces : {d : State F} (u : List ℕ) → list_all is_ascii_whitespace u ≡ true
       → IsSound d.symbols d.padding → d.failed ≡ false → Completes d u [] d
@@ -193,13 +199,6 @@ module _ {F : Type 0} where
       → IsSound d.symbols d.padding → d.failed ≡ false → Completes d (take k u) [] d
   completes_ahead u is = completes_spaces (take _ u)
       (ap (λ n. list_all is_ascii_whitespace (take n u)) is ∙ prefix_passes is_ascii_whitespace u)
-
-  -- the first `at` bytes of a text are read, and then the white space after them
-  pub completes_on : {d d1 : State F} {a : List ℕ} (s : List ℕ) (at k : ℕ) → IsSound d1.symbols d1.padding
-      → Completes d (take at s) a d1 → k ≡ prefix_len is_ascii_whitespace (take (length s - at) (drop at s))
-      → Completes d (take (at + k) s) a d1
-  completes_on {a = a} s at k sound f is =
-      rw (append-nil a) at (completes_more s at k f (completes_ahead _ is sound f.going))
 
 -- `len` is the number of bytes that are held
 pub held_len : (p : HeldGroups) → length (held_bytes p) ≡ p.len

@@ -1,24 +1,23 @@
 -- The symbols that are left over, and then those that a text begins with, in one row. For `row_with`, and for what
 -- reads such rows.
-use Rattle.std.proofs.Common.{append_assoc, take-add}
-use Rattle.std.proofs.lemmas.List.{map-append}
-use Rattle.data_url.proofs.forgiving_base64.Vectors.{groups_whole}
-use Rattle.std.proofs.Common.{Bool, filter, List, [], ◌∷◌, ap, append-nil, arith, drop, false, get_or}
+use Rattle.std.proofs.Common.{append_assoc, Bool, filter, List, [], ◌∷◌, ap, append-nil, arith, drop, false, get_or}
 use Rattle.std.proofs.Common.{length, length-append, length-drop, length-take, length-take-le, map, refl, replicate}
 use Rattle.std.proofs.Common.{suc, sym, take}
 use Rattle.std.proofs.Common.{take-add, take-take, true, zero, ℕ, ◌%◌, ◌*◌, ◌++◌, ◌+◌, ◌-◌, ◌/◌, ◌∙◌, ◌≡◌, ◌≤◌}
-use Rattle.std.proofs.Math.Seq.{drop-append-add, take-append-add}
+use Rattle.std.proofs.Math.Seq.{take-append-add}
 use Rattle.std.proofs.lemmas.Bool.{and_parts}
-use Rattle.std.proofs.lemmas.List.{drop-take, length-map, map-append, nil_from_length, take-append-le}
+use Rattle.std.proofs.lemmas.List.{drop-take, length-map, map-append, nil_from_length, take-append-le, take_rest}
+use Rattle.std.proofs.lemmas.List.Elements.{filter-append}
 use Rattle.std.proofs.lemmas.List.Folds.{list_all-append}
 use Rattle.std.proofs.lemmas.List.Sums.{prefix_len-le-length}
-use Rattle.std.specs.List.{list_all, prefix_len}
+use Rattle.std.specs.{Char.{is_ascii_whitespace}, List.{list_all, prefix_len}}
 use Rattle.data_url.specs.Base64.{after_groups, groups, is_symbol, symbol_value}
 use Rattle.data_url.specs.declared.forgiving_base64.left_over.LeftOver as left
 use Rattle.data_url.specs.{Decoder.{State}, Steps.Holding.{Completes, Gains}, Steps.Lanes.{DecodesFront}}
 use Rattle.data_url.specs.Steps.Groups.{is_symbol_or_space}
 use Rattle.data_url.proofs.classes.FirstRows.{padded_front}
-use Rattle.data_url.proofs.forgiving_base64.Groups.{part_taken, prefix_end, prefix_passes, symbols_alone, symbols_kept}
+use Rattle.data_url.proofs.forgiving_base64.Groups.{part_taken, prefix_end, prefix_passes, spaces_only, symbols_alone}
+use Rattle.data_url.proofs.forgiving_base64.Groups.{symbols_kept}
 use Rattle.data_url.proofs.forgiving_base64.Holding.{completes_spaced}
 use Rattle.data_url.proofs.forgiving_base64.Padding.{after_groups-append, after_is, every_list_all, filter_all}
 use Rattle.data_url.proofs.forgiving_base64.Padding.{length-after_groups}
@@ -36,22 +35,6 @@ first_items [] r k few long = absurd (omega arith)
 first_items (a ∷ []) r k few long = absurd (omega arith)
 first_items (a ∷ b ∷ []) r k few long = absurd (omega arith)
 
--- a row that is made of p symbols and the row of a text, which is turned to its place after them
-pub joined_is : (q left first next row text : List ℕ) (p : ℕ) → p ≤ 3 → take p left ≡ q
-    → first ≡ take 16 (text ++ replicate 16 0) → length first ≡ 16 → next ≡ drop (16 - p) first ++ take (16 - p) first
-    → row ≡ take p left ++ drop p next → row ≡ q ++ take (16 - p) (text ++ replicate 16 0)
-joined_is q left first next row text p few front first_is long next_is is =
-    let back = drop (16 - p) first in
-    let size : p ≡ length back + 0 = omega (arith, length-drop (16 - p) first, long) in
-    let rest : drop p (back ++ take (16 - p) first) ≡ take (16 - p) first =
-    ap (λ n. drop n (back ++ take (16 - p) first)) size ∙ drop-append-add back (take (16 - p) first) 0 in
-    cc (is, front, next_is, rest, first_is, take-take (16 - p) 16 (text ++ replicate 16 0) (omega arith))
-
--- if no symbols are left over, it is the row of the text
-pub joined_none : (symbols text : List ℕ) {p : ℕ} → p ≡ 0
-    → take 16 (text ++ replicate 16 0) ≡ take p symbols ++ take (16 - p) (text ++ replicate 16 0)
-joined_none symbols text e = rw e refl
-
 -- the row begins with the symbols left over and then with `read` bytes of the text that pass a test, and no more
 pub record Joins (pass : ℕ → Bool) (q text row : List ℕ) (read : ℕ) : Type 0 where
   pub within : read ≤ length text
@@ -67,7 +50,7 @@ prefix_after pass (x ∷ q) s h =
     let p = and_parts (pass x) (list_all pass q) h in grind (arith, prefix_after pass q s p.1)
 
 -- such a row begins with the symbols left over and then with bytes of the text that pass
-joins : (pass : ℕ → Bool) (q text row : List ℕ) (p : ℕ) → pass 0 ≡ false → length q ≡ p → p ≤ 3
+joins : (pass : ℕ → Bool) (q text row : List ℕ) (p : ℕ) → pass 0 ≡ false → length q ≡ p → p ≤ 16
     → list_all pass q ≡ true → row ≡ q ++ take (16 - p) (text ++ replicate 16 0)
     → Joins pass q text row (prefix_len pass row - p)
 joins pass q text row p zero_fails long few passed is =
@@ -98,7 +81,8 @@ pub joins_left : (s : left.LeftOver) (text row : List ℕ) {count : ℕ} → len
     → count ≡ prefix_len is_symbol row → Joins is_symbol (take s.pending s.symbols) text row (count - s.pending)
 joins_left s text row three is count =
     rw count (joins is_symbol (take s.pending s.symbols) text row s.pending refl
-    (length-take-le s.pending s.symbols (omega (arith, three, s.few_pending))) s.few_pending s.pending_symbols is)
+    (length-take-le s.pending s.symbols (omega (arith, three, s.few_pending))) (omega (arith, s.few_pending))
+    s.pending_symbols is)
 
 -- the symbols that such a row begins with have those left over among them
 pub left_ahead : (s : left.LeftOver) (text row : List ℕ) {count : ℕ} → length s.symbols ≡ 3
@@ -226,90 +210,187 @@ decoded_groups row bytes n long within all decodes =
     rw (four, three) at (decodes (n / 4) (omega arith)) (cut_symbols row n all).0
     ∙ groups_cut row n (omega (arith, long, within))
 
--- the symbols q and the first `read` bytes of a text are symbols, of which a row has the last `count`; these bytes are
--- those of their groups, and the row has what is left over
-pub record Fronts (q text row bytes : List ℕ) (read count : ℕ) : Type 0 where
+-- the symbols q, and then those of the first `read` bytes of a text, which are symbols and white space, are those of
+-- whole groups with these bytes, and then the first `count` bytes of a row
+pub record Rows (q text row bytes : List ℕ) (read count : ℕ) : Type 0 where
   pub within : read ≤ length text
+  pub spaced : list_all is_symbol_or_space (take read text) ≡ true
   pub in_row : list_all is_symbol (take count row) ≡ true
-  pub all : list_all is_symbol (q ++ take read text) ≡ true
-  pub bytes_are : bytes ≡ groups (map symbol_value (q ++ take read text))
-  pub left : drop (count / 4 * 4) (take count row) ≡ after_groups (q ++ take read text)
+  pub before : List ℕ
+  pub whole : length before % 4 ≡ 0
+  pub symbols_are : q ++ filter is_symbol (take read text) ≡ before ++ take count row
+  pub bytes_are : bytes ≡ groups (map symbol_value before)
 
--- so it is after the first row
-pub fronts_first : {q text row bytes : List ℕ} (read count : ℕ) (decoded : List ℕ) → Joins is_symbol q text row read
-    → count ≡ prefix_len is_symbol row → length row ≡ 16 → DecodesFront row decoded
-    → bytes ≡ take (count / 4 * 3) decoded → Fronts q text row bytes read count
-fronts_first {q} {text} {row} read count decoded j ahead long decodes is =
-    let symbols : take count row ≡ q ++ take read text = ap (λ k. take k row) (ahead ∙ j.count) ∙ j.same in
-    let few : count ≤ 16 = omega (arith, ahead, prefix_len-le-length is_symbol row, long) in
-    let all : list_all is_symbol (take count row) ≡ true = ap (list_all is_symbol) symbols ∙ j.all in
+-- so it is before any symbol is read
+pub rows_none : {q row : List ℕ} (text : List ℕ) (p : ℕ) → list_all is_symbol q ≡ true → take p row ≡ q
+    → Rows q text row [] 0 p
+unfolding groups
+rows_none {q} text p all same = record {
+  within = omega arith;
+  spaced = refl;
+  in_row = ap (list_all is_symbol) same ∙ all;
+  before = [];
+  whole = refl;
+  symbols_are = append-nil q ∙ sym same;
+  bytes_are = refl;
+}
+
+-- so it is with the first row
+pub rows_first : {q text row : List ℕ} (read count : ℕ) → Joins is_symbol q text row read
+    → count ≡ prefix_len is_symbol row → Rows q text row [] read count
+unfolding groups
+rows_first {q} {text} {row} read count j ahead =
+    let t = take read text in
+    let symbols : take count row ≡ q ++ t = ap (λ k. take k row) (ahead ∙ j.count) ∙ j.same in
+    let alone = (and_parts (list_all is_symbol q) (list_all is_symbol t)
+    (sym (list_all-append is_symbol q t) ∙ j.all)).1 in
     record {
       within = j.within;
-      in_row = all;
-      all = j.all;
-      bytes_are = cc (is, decoded_groups row decoded count long few all decodes, symbols);
-      left = cc (after_is (take count row), length-take-le count row (omega (arith, few, long)), symbols);
+      spaced = symbols_alone t alone;
+      in_row = ap (list_all is_symbol) symbols ∙ j.all;
+      before = [];
+      whole = refl;
+      symbols_are = ap (λ k. q ++ k) (filter_all is_symbol t (every_list_all t alone)) ∙ sym symbols;
+      bytes_are = refl;
     }
 
--- so it is after one row more
-pub fronts_more : {q text row bytes more row' : List ℕ} (read m : ℕ) (decoded : List ℕ)
-    → Fronts q text row bytes read 16 → length row ≡ 16 → row' ≡ take 16 (drop read text ++ replicate 16 0)
-    → m ≡ prefix_len is_symbol row' → length row' ≡ 16 → DecodesFront row' decoded
-    → more ≡ bytes ++ take (m / 4 * 3) decoded → Fronts q text row' more (read + m) m
-fronts_more {q} {text} {row} {bytes} {more} {row'} read m decoded f sized row_is ahead long decodes is =
-    let a = q ++ take read text in
-    let rest = drop read text in
-    let b = take m rest in
-    let all : prefix_len is_symbol row' - 0 ≡ m = omega (arith, ahead) in
-    let j : Joins is_symbol [] rest row' m =
-    rw all at (joins is_symbol [] rest row' 0 refl refl (omega arith) refl row_is) in
-    let g : Fronts [] rest row' (take (m / 4 * 3) decoded) m m = fronts_first m m decoded j ahead long decodes refl in
-    let none : after_groups a ≡ [] =
-    sym f.left ∙ nil_from_length (drop 16 (take 16 row)) (omega (
-      arith,
-      length-drop 16 (take 16 row),
-      length-take-le 16 row (omega (arith, sized)),
-    )) in
-    let whole : length (map symbol_value a) % 4 ≡ 0 =
-    omega (arith, length-map a symbol_value, length-after_groups a, ap length none) in
-    let joined : a ++ b ≡ q ++ take (read + m) text = cc (append_assoc q (take read text) b, take-add read m text) in
+module _ {q text row bytes : List ℕ} {read count : ℕ} (r : Rows q text row bytes read count) (long : length row ≡ 16)
+    (few : count ≤ 16) where
+  -- with the bytes of the groups that the row begins with, they are those of all groups
+  pub rows_bytes : {more : List ℕ} (decoded : List ℕ) → DecodesFront row decoded
+      → more ≡ bytes ++ take (count / 4 * 3) decoded
+      → more ≡ groups (map symbol_value (q ++ filter is_symbol (take read text)))
+  rows_bytes decoded decodes is = cc (
+    is,
+    r.bytes_are,
+    decoded_groups row decoded count long few r.in_row decodes,
+    r.symbols_are,
+    map-append symbol_value r.before (take count row),
+    groups_whole (map symbol_value r.before) (map symbol_value (take count row))
+        (omega (arith, length-map r.before symbol_value, r.whole)),
+  )
+
+  -- what is left over is in the row
+  pub rows_left : drop (count / 4 * 4) (take count row) ≡ after_groups (q ++ filter is_symbol (take read text))
+  rows_left = cc (
+    after_is (take count row),
+    length-take-le count row (omega (arith, few, long)),
+    r.symbols_are,
+    after_groups-append r.before (take count row),
+    nil_from_length (after_groups r.before) (length-after_groups r.before ∙ r.whole),
+  )
+
+  -- the white space that follows is read
+  pub rows_spaces : {k : ℕ} → k ≡ prefix_len is_ascii_whitespace (take (length text - read) (drop read text))
+      → Rows q text row bytes (read + k) count
+  rows_spaces {k} is =
+      let u = drop read text in
+      let ahead : k ≡ prefix_len is_ascii_whitespace u =
+      is ∙ ap (prefix_len is_ascii_whitespace) (take_rest text read) in
+      let spaces = spaces_only (take k u)
+      (ap (λ n. list_all is_ascii_whitespace (take n u)) ahead ∙ prefix_passes is_ascii_whitespace u) in
+      record {
+        within = omega (arith, ahead, prefix_len-le-length is_ascii_whitespace u, length-drop read text, r.within);
+        spaced = cc (
+          take-add read k text,
+          list_all-append is_symbol_or_space (take read text) (take k u),
+          r.spaced,
+          spaces.1,
+        );
+        in_row = r.in_row;
+        before = r.before;
+        whole = r.whole;
+        symbols_are = cc (
+          take-add read k text,
+          filter-append is_symbol (take read text) (take k u),
+          spaces.0,
+          append-nil (filter is_symbol (take read text)),
+          r.symbols_are,
+        );
+        bytes_are = r.bytes_are;
+      }
+
+  -- the row goes on with the symbols that follow
+  pub rows_joined : {row' next : List ℕ} {count' : ℕ} → next ≡ take 16 (drop read text ++ replicate 16 0)
+      → row' ≡ take count row ++ take (16 - count) next → count' ≡ prefix_len is_symbol row'
+      → Rows q text row' bytes (read + (count' - count)) count' × (count ≤ count')
+  rows_joined {row'} {next} {count'} front is ahead =
+      let n = count' - count in
+      let u = drop read text in
+      let sized = length-take-le count row (omega (arith, few, long)) in
+      let j : Joins is_symbol (take count row) u row' n =
+      rw ahead (joins is_symbol (take count row) u row' count refl sized few r.in_row
+      (cc (is, front, take-take (16 - count) 16 (u ++ replicate 16 0) (omega arith)))) in
+      let symbols : take count' row' ≡ take count row ++ take n u = ap (λ k. take k row') (ahead ∙ j.count) ∙ j.same in
+      let alone = (and_parts (list_all is_symbol (take count row)) (list_all is_symbol (take n u))
+      (sym (list_all-append is_symbol (take count row) (take n u)) ∙ j.all)).1 in (
+        record {
+          within = omega (arith, r.within, j.within, length-drop read text);
+          spaced = cc (
+            take-add read n text,
+            list_all-append is_symbol_or_space (take read text) (take n u),
+            r.spaced,
+            symbols_alone (take n u) alone,
+          );
+          in_row = ap (list_all is_symbol) symbols ∙ j.all;
+          before = r.before;
+          whole = r.whole;
+          symbols_are = cc (
+            take-add read n text,
+            filter-append is_symbol (take read text) (take n u),
+            filter_all is_symbol (take n u) (every_list_all (take n u) alone),
+            append_assoc q (filter is_symbol (take read text)) (take n u),
+            r.symbols_are,
+            append_assoc r.before (take count row) (take n u),
+            symbols,
+          );
+          bytes_are = r.bytes_are;
+        },
+        omega (arith, ahead, j.count, sized),
+      )
+
+-- a whole row is decoded, and then no symbols are in the row
+pub rows_whole : {q text row bytes more : List ℕ} {read count : ℕ} (decoded : List ℕ)
+    → Rows q text row bytes read count → count ≡ 16 → length row ≡ 16 → DecodesFront row decoded
+    → more ≡ bytes ++ take 12 decoded → Rows q text row more read 0
+rows_whole {q} {text} {row} {bytes} {more} {read} decoded r full long decodes is =
+    let r16 : Rows q text row bytes read 16 = rw full at r in
     record {
-      within = omega (arith, f.within, g.within, length-drop read text);
-      in_row = g.in_row;
-      all = cc (sym joined, list_all-append is_symbol a b, f.all, g.all);
-      bytes_are = cc (
-        is,
-        f.bytes_are,
-        g.bytes_are,
-        joined,
-        map-append symbol_value a b,
-        groups_whole (map symbol_value a) (map symbol_value b) whole,
+      within = r.within;
+      spaced = r.spaced;
+      in_row = refl;
+      before = q ++ filter is_symbol (take read text);
+      whole = omega (
+        arith,
+        ap length r16.symbols_are,
+        length-append r16.before (take 16 row),
+        length-take-le 16 row (omega (arith, long)),
+        r16.whole,
       );
-      left = cc (g.left, joined, after_groups-append a b, none);
+      symbols_are = sym (append-nil (q ++ filter is_symbol (take read text)));
+      bytes_are = rows_bytes r16 long (omega arith) decoded decodes is;
     }
 
 module _ {F : Type 0} (d d' : State F) (text row bytes : List ℕ) (read count : ℕ)
-    (f : Fronts d.symbols text row bytes read count) (s : IsSound d.symbols d.padding) (none : d.padding ≡ 0)
-    (closure : d'.closure ≡ d.closure) (left : d'.symbols ≡ drop (count / 4 * 4) (take count row))
-    (padding : d'.padding ≡ 0) (going : d'.failed ≡ false) where
-  -- the symbols are read
-  pub completes_front : Completes d (take read text) bytes d'
-  completes_front =
-      let q = d.symbols in
-      let t = take read text in
-      let alone = (and_parts (list_all is_symbol q) (list_all is_symbol t)
-      (sym (list_all-append is_symbol q t) ∙ f.all)).1 in
-      completes_spaced t t s none (symbols_alone t alone) (sym (filter_all is_symbol t (every_list_all t alone)))
-      f.bytes_are closure (left ∙ f.left) padding going
+    (r : Rows d.symbols text row bytes read count) (long : length row ≡ 16) (few : count ≤ 16)
+    (s : IsSound d.symbols d.padding) (none : d.padding ≡ 0) (closure : d'.closure ≡ d.closure)
+    (left : d'.symbols ≡ drop (count / 4 * 4) (take count row)) (padding : d'.padding ≡ 0)
+    (going : d'.failed ≡ false) {more : List ℕ} (decoded : List ℕ) (decodes : DecodesFront row decoded)
+    (is : more ≡ bytes ++ take (count / 4 * 3) decoded) where
+  -- the symbols and the white space are read
+  pub completes_rows : Completes d (take read text) more d'
+  completes_rows =
+      completes_spaced (take read text) (filter is_symbol (take read text)) s none r.spaced refl
+      (rows_bytes r long few decoded decodes is) closure (left ∙ rows_left r long few) padding going
 
   -- their bytes are held after others
-  pub gains_front : {held more : List ℕ} → 1 ≤ read → more ≡ held ++ bytes → Gains d held text read d' more
-  gains_front some is = record {
+  pub gains_rows : {held held' : List ℕ} → 1 ≤ read → held' ≡ held ++ more → Gains d held text read d' held'
+  gains_rows some same = record {
     some = some;
-    within = f.within;
-    more = bytes;
-    completes = completes_front;
-    held_are = is;
+    within = r.within;
+    more = more;
+    completes = completes_rows;
+    held_are = same;
   }
 
 -- symbols that are left over, copied to the start of a list, and those that are packed after them

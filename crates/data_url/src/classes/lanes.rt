@@ -1,7 +1,7 @@
 //! Rows of sixteen bytes: reads and writes them, and tests whether their bytes are in a class. Blocks of 64 bytes are
 //! tested in the same way.
 
-ghost use Rattle.std.specs.Prelude.{◌≡◌, ◌+◌, ◌++◌, ◌<◌, ◌≤◌};
+ghost use Rattle.std.specs.Prelude.{◌≡◌, ◌+◌, ◌-◌, ◌++◌, ◌<◌, ◌≤◌};
 ghost use Rattle.std.specs.Prelude.{drop, length, map, not, replicate, take};
 ghost use Rattle.std.specs.{List.{list_all}, Simd.Lanes.{mask_l}};
 ghost use Rattle.data_url.specs.Steps.Classes.{AreOf, classified, may_be_outside};
@@ -62,6 +62,33 @@ pub(crate) fn rotated(bytes: u8x16, at: usize) -> u8x16
     ensures { result ≡ drop at bytes ++ take at bytes }
 {
     bytes.swizzle_dyn(row(&PLACES, at))
+}
+
+/// Returns the row of a text of at least sixteen bytes that begins at a place. If the text ends before the row does,
+/// zeros follow.
+#[inline(always)]
+pub(crate) fn row_from(text: &[u8], at: usize) -> u8x16
+    requires { (16 ≤ length text.now) × (at ≤ length text.now) }
+    ensures { result ≡ take 16 (drop at text.now ++ replicate 16 0) }
+{
+    let last = text.len() - ROW;
+    if at <= last {
+        return row(text, at);
+    }
+    let rest = rotated(row(text, last), at - last);
+    spliced(rest, u8x16::splat(0), text.len() - at)
+}
+
+/// Returns a row of the first `count` bytes of a row, and then the first bytes of another one.
+#[inline(always)]
+pub(crate) fn joined(first: u8x16, second: u8x16, count: usize) -> u8x16
+    requires { count ≤ 16 }
+    ensures { result ≡ take count first ++ take (16 - count) second }
+{
+    if count == 0 {
+        return second;
+    }
+    spliced(first, rotated(second, ROW - count), count)
 }
 
 /// The places in a quarter of a row, four times.

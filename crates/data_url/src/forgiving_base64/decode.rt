@@ -168,7 +168,7 @@ where
         Ok(at + spaces_len(&text[at..]))
     }
 
-    /// Feeds a text up to its first fault, and holds the bytes of its groups until there are 64. If `decode_short`
+    /// Feeds a text up to its first fault, and holds the bytes of its groups until there are 128. If `decode_short`
     /// reads the whole text, its bytes are not held. Returns the place of the fault and its kind, or the length of the
     /// text and None if there is no fault.
     #[inline(always)]
@@ -183,10 +183,10 @@ where
         ensures read { ReadsUntilFault (CalledAt F.FnMut) (state_of self.old) text.now result
             (state_of self.new) }
     {
-        let mut front = [0; SHORT];
+        let mut front = [0; BLOCK];
         let mut len = 0;
         let mut at = 0;
-        if text.len() < BLOCK {
+        if self.state.pending() + text.len() <= SHORT {
             (at, len) = self.state.decode_short(text, &mut front);
             if at == text.len() {
                 if len == 0 {

@@ -2,24 +2,23 @@
 
 ghost use Rattle.std.specs.Prelude.{◌≡◌, ◌%◌, ◌+◌, ◌≤◌, ◌<◌, ◌++◌, [], drop, length, take};
 
-use crate::classes::lanes::{put, row};
+use crate::classes::lanes::{BLOCK, put, row};
 
-/// How many bytes are held before the closure is called: those of 64 groups. If it were called after 16 groups,
-/// decoding lines of 76 symbols would take a fifth longer.
-pub(crate) const FULL: usize = 192;
+/// How many bytes are held before the closure is called: those of 128 groups. Decoding lines of 76 symbols took a
+/// twentieth longer with 64 groups, and with 16 another fifth.
+pub(crate) const FULL: usize = 384;
 
-/// The size of a buffer for the bytes of a text that is shorter than a block: those of up to sixteen groups, and then
-/// bytes that are of no use.
-pub(crate) const SHORT: usize = 80;
+/// How many bytes a short text has at most, with the symbols that were left over: it completes up to sixteen groups.
+pub(crate) const SHORT: usize = 67;
 
-/// The bytes of up to 64 groups, and of up to fifteen groups of the symbols that were added last.
+/// The bytes of up to 128 groups, and of up to fifteen groups of the symbols that were added last.
 #[derive(Drop)]
 pub(crate) struct HeldGroups {
-    pub(super) bytes: [u8; 256],
+    pub(super) bytes: [u8; 448],
     pub(crate) len: usize,
-    ghost within: { len < 240 },
+    ghost within: { len < 432 },
     ghost whole: { len % 3 ≡ 0 },
-    ghost sized: { length bytes ≡ 256 },
+    ghost sized: { length bytes ≡ 448 },
 }
 
 impl HeldGroups {
@@ -32,14 +31,14 @@ impl HeldGroups {
         ensures len { result.len ≡ 0 }
     {
         HeldGroups {
-            bytes: [0; 256],
+            bytes: [0; 448],
             len: 0,
         }
     }
 
     /// Holds the first `len` bytes of a short text in place of what was held.
     #[inline(always)]
-    pub(crate) fn hold(&mut self, short: &[u8; SHORT], len: usize)
+    pub(crate) fn hold(&mut self, short: &[u8; BLOCK], len: usize)
         requires few { len ≤ 48 }
         requires whole { len % 3 ≡ 0 }
         ensures bytes { held_bytes self.new ≡ take len short.now }
@@ -59,14 +58,14 @@ impl HeldGroups {
         &self.bytes[..self.len]
     }
 
-    /// Removes the bytes of the first 64 groups.
+    /// Removes the bytes of the first 128 groups.
     #[inline(always)]
     pub(crate) fn drop_first(&mut self)
-        requires { 192 ≤ self.old.len }
-        ensures bytes { held_bytes self.new ≡ drop 192 (held_bytes self.old) }
-        ensures len { self.new.len + 192 ≡ self.old.len }
+        requires { 384 ≤ self.old.len }
+        ensures bytes { held_bytes self.new ≡ drop 384 (held_bytes self.old) }
+        ensures len { self.new.len + 384 ≡ self.old.len }
     {
-        self.bytes.copy_within(FULL..240, 0);
+        self.bytes.copy_within(FULL..432, 0);
         self.len -= FULL;
     }
 }

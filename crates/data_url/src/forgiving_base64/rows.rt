@@ -12,9 +12,9 @@ use super::gaps::{
     before_partial, decode_unit, pack_rows, pack_spaced, row_over_gap, spaces_after_twelve,
     spaces_len,
 };
-use super::held::{FULL, HeldGroups, SHORT};
+use super::held::{FULL, HeldGroups};
 use super::left_over::LeftOver;
-use crate::classes::lanes::{BLOCK, ROW, first_row, put, repeated, rotated, row, spliced};
+use crate::classes::lanes::{BLOCK, ROW, first_row, joined, put, repeated, rotated, row, row_from};
 use std::simd::prelude::*;
 
 impl HeldGroups {
@@ -24,7 +24,7 @@ impl HeldGroups {
     /// fifteen bytes. Returns how many bytes of the text were decoded.
     #[inline(always)]
     pub(crate) fn decode_ahead(&mut self, text: &[u8]) -> usize
-        requires room { self.old.len < 192 }
+        requires room { self.old.len < 384 }
         ensures within { result ≤ length text.now }
         ensures added { AddsGroups (held_bytes self.old) (take result text.now)
             (held_bytes self.new) }
@@ -36,19 +36,19 @@ impl HeldGroups {
         taken + self.decode_spaced_rows(&text[taken..])
     }
 
-    /// Decodes rows of sixteen symbols, which may each have one gap, until 64 groups are held, and adds their bytes.
+    /// Decodes rows of sixteen symbols, which may each have one gap, until 128 groups are held, and adds their bytes.
     /// Returns how many bytes of the text the rows take.
     #[inline(never)]
     fn decode_rows(&mut self, text: &[u8]) -> usize
-        requires room { self.old.len < 192 }
+        requires room { self.old.len < 384 }
         ensures within { result ≤ length text.now }
         ensures added { AddsGroups (held_bytes self.old) (take result text.now)
             (held_bytes self.new) }
     {
         let rows_end = text.len().saturating_sub(15);
         let mut len = self.len;
-        // While the place is before `end`, fewer than 64 groups are held. The bytes that are missing have 4 / 3 as many
-        // symbols, and 85 / 64 is a little less than 4 / 3.
+        // While the place is before `end`, fewer than 128 groups are held. The bytes that are missing have 4 / 3 as
+        // many symbols, and 85 / 64 is a little less than 4 / 3.
         let mut end = rows_end.min((FULL - len) * 85 / 64);
         let mut at = 0;
         while at < end {
@@ -79,16 +79,16 @@ impl HeldGroups {
         at
     }
 
-    /// Decodes rows of symbols with white space anywhere, until 64 groups are held, and adds the bytes of their whole
+    /// Decodes rows of symbols with white space anywhere, until 128 groups are held, and adds the bytes of their whole
     /// groups. Returns how many bytes of the text these groups take.
     #[inline(never)]
     fn decode_spaced_rows(&mut self, text: &[u8]) -> usize
-        requires room { self.old.len < 192 }
+        requires room { self.old.len < 384 }
         ensures within { result ≤ length text.now }
         ensures added { AddsGroups (held_bytes self.old) (take result text.now)
             (held_bytes self.new) }
     {
-        let mut symbols = [0; 288];
+        let mut symbols = [0; 544];
         let (have, at) = pack_rows(text, &mut symbols, (FULL - self.len) / 3 * 4);
         let (have, taken) = before_partial(text, have, at);
         decode_unit(&symbols, have, &mut self.bytes, self.len);
@@ -101,6 +101,15 @@ impl LeftOver {
     ghost use Rattle.data_url.specs.Steps.Groups.{held_bytes};
     ghost use Rattle.data_url.specs.Steps.Holding.{Completes, Gains, Refuses, left_state};
 
+    /// Returns a row that begins with the symbols left over.
+    #[inline(always)]
+    fn as_row(&self) -> u8x16
+        ensures { take self.now.pending result ≡ take self.now.pending self.now.symbols }
+    {
+        let [first, second, third] = self.symbols;
+        u8x16::from_array([first, second, third, 0, 0, 0, 0, 0, 0, 0, 0, 0, 0, 0, 0, 0])
+    }
+
     /// Returns a row that has the symbols left over, then the bytes that a text begins with and, if the text is shorter
     /// than the row, zeros.
     #[inline(always)]
@@ -108,13 +117,7 @@ impl LeftOver {
         ensures { result ≡ take self.now.pending self.now.symbols
             ++ take (16 - self.now.pending) (text.now ++ replicate 16 0) }
     {
-        let next = first_row(text);
-        if self.pending == 0 {
-            return next;
-        }
-        let [first, second, third] = self.symbols;
-        let left = u8x16::from_array([first, second, third, 0, 0, 0, 0, 0, 0, 0, 0, 0, 0, 0, 0, 0]);
-        spliced(left, rotated(next, 16 - self.pending), self.pending)
+        joined(self.as_row(), first_row(text), self.pending)
     }
 
     /// Keeps the symbols after the last whole group among the first `count` symbols of a row.
@@ -132,52 +135,6 @@ impl LeftOver {
             put(&mut left, 0, rotated(row, count / 4 * 4));
             self.symbols = [left[0], left[1], left[2]];
         }
-    }
-
-    /// Reads the symbols that a text begins with, as many as have room in a row after those left over. Writes the bytes
-    /// of the groups that are complete then to `bytes`, and after them bytes that are of no use. Returns how many
-    /// symbols were read, and how many bytes the groups have.
-    #[inline(always)]
-    fn decode_first_row(&mut self, text: &[u8], bytes: &mut [u8]) -> (usize, usize)
-        requires no_padding { self.old.padding ≡ 0 }
-        requires room { 16 ≤ length bytes.old }
-        ensures sizes { (result.0 ≤ length text.now) × ((result.1 ≤ 12) × (result.1 % 3 ≡ 0)) }
-        ensures read { Completes (left_state self.old) (take result.0 text.now)
-            (take result.1 bytes.new) (left_state self.new) }
-    {
-        let row = self.row_with(text);
-        let count = symbols_ahead(row);
-        let taken = count - self.pending;
-        put(bytes, 0, decode_row(row));
-        self.keep_after_groups(row, count);
-        (taken, count / 4 * 3)
-    }
-
-    /// Reads the symbols that a text begins with. Writes the bytes of the groups that are complete then to `bytes`, and
-    /// after them bytes that are of no use. Returns how many symbols were read, and how many bytes the groups have.
-    #[inline(always)]
-    fn decode_front(&mut self, text: &[u8], bytes: &mut [u8]) -> (usize, usize)
-        requires no_padding { self.old.padding ≡ 0 }
-        requires room { 3 * (self.old.pending + length text.now) + 64 ≤ 4 * length bytes.old }
-        ensures sizes { (result.0 ≤ length text.now) × ((result.1 % 3 ≡ 0) × (self.new.padding ≡ 0)) }
-        ensures size { 4 * result.1 + 3 * self.new.pending ≡ 3 * (self.old.pending + result.0) }
-        ensures read { Completes (left_state self.old) (take result.0 text.now)
-            (take result.1 bytes.new) (left_state self.new) }
-    {
-        let mut row = self.row_with(text);
-        let mut count = symbols_ahead(row);
-        put(bytes, 0, decode_row(row));
-        let mut read = count - self.pending;
-        let mut len = 0;
-        while count == ROW && read < text.len() {
-            len += 12;
-            row = first_row(&text[read..]);
-            count = symbols_ahead(row);
-            put(bytes, len, decode_row(row));
-            read += count;
-        }
-        self.keep_after_groups(row, count);
-        (read, len + count / 4 * 3)
     }
 
     /// Reads the symbol that a text of up to 64 bytes begins with, and the symbols and the white space after it. Writes
@@ -202,37 +159,106 @@ impl LeftOver {
         (read, count / 4 * 3)
     }
 
-    /// Reads the symbols that a short text begins with, and the white space after them. If the text and what is left
-    /// over are longer than a row, goes on in this way until there are fewer than twelve symbols before the white
-    /// space, or none after it. Writes the bytes of the groups that are complete then to `bytes`, and after them bytes
-    /// that are of no use. Returns how many bytes of the text were read, and how many bytes the groups have. Reads
-    /// nothing if padding came before.
+    /// Reads the symbols that a text begins with, as many as have room in a row after those left over. Writes the bytes
+    /// of the groups that are complete then to `bytes`, and after them bytes that are of no use. Returns how many
+    /// symbols were read, and how many bytes the groups have.
     #[inline(always)]
-    pub(super) fn decode_short(&mut self, text: &[u8], bytes: &mut [u8; SHORT]) -> (usize, usize)
-        requires few { length text.now < 64 }
+    fn decode_first_row(&mut self, text: &[u8], bytes: &mut [u8]) -> (usize, usize)
+        requires no_padding { self.old.padding ≡ 0 }
+        requires room { 16 ≤ length bytes.old }
+        ensures sizes { (result.0 ≤ length text.now) × ((result.1 ≤ 12) × (result.1 % 3 ≡ 0)) }
+        ensures read { Completes (left_state self.old) (take result.0 text.now)
+            (take result.1 bytes.new) (left_state self.new) }
+    {
+        let row = self.row_with(text);
+        let count = symbols_ahead(row);
+        let taken = count - self.pending;
+        put(bytes, 0, decode_row(row));
+        self.keep_after_groups(row, count);
+        (taken, count / 4 * 3)
+    }
+
+    /// Reads the symbols and the white space that a text of at least sixteen bytes begins with, in rows of sixteen
+    /// symbols. Stops after a line of few symbols. Writes the bytes of the groups that are complete then to `bytes`,
+    /// and after them bytes that are of no use. Returns how many bytes of the text were read, and how many bytes the
+    /// groups have.
+    #[inline(always)]
+    fn decode_lines(&mut self, text: &[u8], bytes: &mut [u8; BLOCK]) -> (usize, usize)
+        requires no_padding { self.old.padding ≡ 0 }
+        requires long { 16 ≤ length text.now }
+        requires few { self.old.pending + length text.now ≤ 67 }
+        ensures sizes { (result.0 ≤ length text.now) × (result.1 % 3 ≡ 0) }
+        ensures size { 4 * result.1 ≤ 3 * (self.old.pending + result.0) }
+        ensures read { Completes (left_state self.old) (take result.0 text.now)
+            (take result.1 bytes.new) (left_state self.new) }
+    {
+        let mut row = self.as_row();
+        let mut have = self.pending;
+        let mut at = 0;
+        let mut len = 0;
+        let mut line = 0;
+        'rows: while at < text.len() {
+            row = joined(row, row_from(text, at), have);
+            let count = symbols_ahead(row);
+            if count == ROW {
+                put(bytes, len, decode_row(row));
+                len += 12;
+                at += ROW - have;
+                have = 0;
+            } else {
+                at += count - have;
+                have = count;
+                let spaces = spaces_len(&text[at..]);
+                at += spaces;
+                // Shorter lines are packed, which costs less.
+                if spaces == 0 || at - line < 10 {
+                    break 'rows;
+                }
+                line = at;
+            }
+        }
+        put(bytes, len, decode_row(row));
+        self.keep_after_groups(row, have);
+        (at, len + have / 4 * 3)
+    }
+
+    /// Reads the padding and the white space that a text begins with. Returns how many bytes they have.
+    #[inline(always)]
+    fn read_end(&mut self, text: &[u8]) -> usize
+        ensures within { result ≤ length text.now }
+        ensures read { Completes (left_state self.old) (take result text.now) [] (left_state self.new) }
+    {
+        let mut at = 0;
+        while at < text.len() {
+            let byte = text[at];
+            match byte {
+                b'=' => self.padding = (self.padding + 1).min(3),
+                _ if byte.is_ascii_whitespace() => {}
+                _ => return at,
+            }
+            at += 1;
+        }
+        at
+    }
+
+    /// Reads the symbols that a short text begins with, and white space among them, and then padding and white space.
+    /// Writes the bytes of the groups that are complete then to `bytes`, and after them bytes that are of no use.
+    /// Returns how many bytes of the text were read, and how many bytes the groups have.
+    #[inline(always)]
+    pub(super) fn decode_short(&mut self, text: &[u8], bytes: &mut [u8; BLOCK]) -> (usize, usize)
+        requires few { self.old.pending + length text.now ≤ 67 }
         ensures sizes { (result.0 ≤ length text.now) × ((result.1 ≤ 48) × (result.1 % 3 ≡ 0)) }
         ensures read { Completes (left_state self.old) (take result.0 text.now)
             (take result.1 bytes.new) (left_state self.new) }
     {
-        let mut at = 0;
-        let mut len = 0;
-        if self.padding > 0 {
-            return (at, len);
-        }
-        if self.pending + text.len() <= ROW {
-            let (taken, len) = self.decode_first_row(text, bytes);
-            return (taken + spaces_len(&text[taken..]), len);
-        }
-        loop {
-            let (read, more) = self.decode_front(&text[at..], &mut bytes[len..]);
-            len += more;
-            at += read;
-            at += spaces_len(&text[at..]);
-            // Shorter lines are packed, which costs less.
-            if at == text.len() || read < 12 || !is_symbol(text[at]) {
-                return (at, len);
-            }
-        }
+        let (at, len) = if self.padding > 0 {
+            (0, 0)
+        } else if text.len() < ROW {
+            self.decode_first_row(text, bytes)
+        } else {
+            self.decode_lines(text, bytes)
+        };
+        (at + self.read_end(&text[at..]), len)
     }
 
     /// Reads the symbols that a text begins with, as many as have room in a row after those left over. If another byte
@@ -242,7 +268,7 @@ impl LeftOver {
     fn read_symbols(&mut self, text: &[u8], groups: &mut HeldGroups) -> usize
         requires some { (1 ≤ length text.now) × IsTrue (is_symbol (slice_index text.now 0)) }
         requires no_padding { self.old.padding ≡ 0 }
-        requires room { groups.old.len < 192 }
+        requires room { groups.old.len < 384 }
         ensures { Gains (left_state self.old) (held_bytes groups.old) text.now result
             (left_state self.new) (held_bytes groups.new) }
     {
@@ -271,7 +297,7 @@ impl LeftOver {
         groups: &mut HeldGroups,
     ) -> Result<usize, InvalidBase64Details>
         requires some { 1 ≤ length text.now }
-        requires room { groups.old.len < 192 }
+        requires room { groups.old.len < 384 }
         ensures { MatchResult result
             (λ taken. Gains (left_state self.old) (held_bytes groups.old) text.now taken
             (left_state self.new) (held_bytes groups.new))

@@ -9,8 +9,8 @@ use Rattle.data_url.proofs.forgiving_base64.Steps.{sound}
 use Rattle.data_url.proofs.forgiving_base64.decode.Decoder.feed_groups.Goals as goal
 
 pub groups-init : goal.groups-init
-groups-init g c = elim c.if-text-lt-BLOCK.branch [
-  | goal.then-text-lt-BLOCK+else-at-text w ↦
+groups-init g c = elim c.if-pending-text-le-SHORT.branch [
+  | goal.then-pending-text-le-SHORT+else-at-text w ↦
       let read = w.decode_short.ensures in
       rw (w.self-is, w.at-is) (record {
         callable = c.requires.callable;
@@ -20,7 +20,7 @@ groups-init g c = elim c.if-text-lt-BLOCK.branch [
         reads = rw (c.hold.ensures.bytes, w.len-is, w.front-is) (reads_whole (CalledAt g.F.FnMut)
             {f = c.args.self.now.write_bytes} (sound c.args.self.now.state) c.requires.going read.read);
       })
-  | goal.else-text-lt-BLOCK w ↦ rw (w.self-is, w.at-is) (record {
+  | goal.else-pending-text-le-SHORT w ↦ rw (w.self-is, w.at-is) (record {
     callable = c.requires.callable;
     within = omega arith;
     few = omega (arith, c.hold.ensures.len, w.len-is);
@@ -60,7 +60,7 @@ returns-then-at-text-clause-read g c =
 pub slice_bounds-flush-end : goal.slice_bounds-flush-end
 slice_bounds-flush-end g c =
     let size = ap length c.as_slice.ensures ∙ held_len c.read_groups_or_byte.new.groups in
-    sym (length-take-le 192 _ (omega (arith, size)))
+    sym (length-take-le 384 _ (omega (arith, size)))
 
 pub flush-requires-clause-whole : goal.flush-requires-clause-whole
 flush-requires-clause-whole g c = omega (arith, slice_bounds-flush-end g c)
@@ -75,8 +75,8 @@ returns-in_err-flush-clause-read g c =
     let p = err_from_is_err_and c.from_residual-in_err-flush.result c.from_residual-in_err-flush.ensures.1 in
     rw (p.1, p.2) (ends_within (CalledAt g.F.FnMut) (c.groups.at + c.in-Ok.taken)
     (omega (arith, c.in-Ok.ensures.within, length-drop c.groups.at c.args.text.now)) reads
-    (flushed (state_of c.args.self.now) (take (c.groups.at + c.in-Ok.taken) c.args.text.now) (drop 192 bytes)
-    (rw (take-append-drop 192 bytes) reads)))
+    (flushed (state_of c.args.self.now) (take (c.groups.at + c.in-Ok.taken) c.args.text.now) (drop 384 bytes)
+    (rw (take-append-drop 384 bytes) reads)))
 
 pub groups-preserved-then-groups-ge-FULL : goal.groups-preserved-then-groups-ge-FULL
 groups-preserved-then-groups-ge-FULL g c =
@@ -90,8 +90,8 @@ groups-preserved-then-groups-ge-FULL g c =
       within = omega (arith, c.in-Ok.ensures.within, length-drop c.groups.at text);
       few = omega (arith, c.drop_first.ensures.len, held.within);
       none = c.groups.invariant.none;
-      reads = rw c.drop_first.ensures.bytes (flushed (state_of c.args.self.now) (take n text) (drop 192 bytes)
-          (rw (take-append-drop 192 bytes) (reads_gained (CalledAt g.F.FnMut) text c.groups.at c.in-Ok.taken
+      reads = rw c.drop_first.ensures.bytes (flushed (state_of c.args.self.now) (take n text) (drop 384 bytes)
+          (rw (take-append-drop 384 bytes) (reads_gained (CalledAt g.F.FnMut) text c.groups.at c.in-Ok.taken
           c.groups.invariant.reads c.in-Ok.ensures)));
     }
 

@@ -7,7 +7,7 @@ abbrev pub invariant-groups : goal.invariant-groups
 invariant-groups g l = record {
   callable : always_mut g.F.FnMut (state_of l.self).closure;
   within : l.at ≤ length l.text;
-  few : l.groups.len < 192;
+  few : l.groups.len < 384;
   none : l.fault ≡ None;
   reads : ReadsHolding (CalledAt g.F.FnMut) (state_of l.fn.self) (take l.at l.text) (held_bytes l.groups)
       (state_of l.self);

@@ -7,9 +7,9 @@ use Rattle.data_url.proofs.forgiving_base64.held.HeldGroups.decode_rows.Given as
 abbrev pub invariant-loop-at : goal.invariant-loop-at
 invariant-loop-at l = record {
   within : l.at ≤ length l.text;
-  few : l.len < 204;
+  few : l.len < 396;
   whole : l.len % 3 ≡ 0;
-  full : 4 * l.len + 3 * l.end ≤ 768 + 3 * l.at;
+  full : 4 * l.len + 3 * l.end ≤ 1536 + 3 * l.at;
   rows : l.end ≤ length l.text - 15;
   leaves : Leaves (held_bytes l.fn.self) l.text (drop l.at l.text) (take l.len l.self.bytes);
 }

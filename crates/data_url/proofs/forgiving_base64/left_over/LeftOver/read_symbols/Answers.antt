@@ -1,9 +1,9 @@
-use Rattle.std.proofs.Common.{◌*◌, ◌-◌, ◌/◌, ◌∙◌, ap, arith, refl, take}
+use Rattle.std.proofs.Common.{[], ◌*◌, ◌-◌, ◌/◌, ◌∙◌, ap, arith, refl, take}
 use Rattle.std.specs.List.{list_all}
 use Rattle.data_url.specs.{Base64.{is_symbol}, Steps.Holding.{left_state}}
 use Rattle.data_url.proofs.forgiving_base64.Groups.{prefix_passes, put_front}
 use Rattle.data_url.proofs.forgiving_base64.Holding.{gains_part}
-use Rattle.data_url.proofs.forgiving_base64.Joined.{fronts_first, gains_front, joins_left, left_ahead, some_read}
+use Rattle.data_url.proofs.forgiving_base64.Joined.{gains_rows, joins_left, left_ahead, rows_first, some_read}
 use Rattle.data_url.proofs.forgiving_base64.Steps.{sound}
 use Rattle.data_url.proofs.forgiving_base64.left_over.LeftOver.read_symbols.Goals as goal
 
@@ -40,11 +40,10 @@ returns c =
     let n = c.symbols_ahead-count.result in
     let is = c.symbols_ahead-count.ensures.starts in
     let kept = c.keep_after_groups.ensures.left in
-    let front = fronts_first (n - d.pending) n c.decode_row.result
-    (joins_left d text row (omega arith) c.row_with-row.ensures is) is (omega arith)
-    c.decode_row.ensures.bytes refl in
-    gains_front (left_state d) (left_state c.keep_after_groups.new.self) text row _ (n - d.pending) n front (sound d)
-    c.requires.no_padding refl (ap (λ s. s.symbols) kept) (ap (λ s. s.padding) kept ∙ c.requires.no_padding) refl
+    let rows = rows_first (n - d.pending) n (joins_left d text row (omega arith) c.row_with-row.ensures is) is in
+    gains_rows (left_state d) (left_state c.keep_after_groups.new.self) text row [] (n - d.pending) n rows (omega arith)
+    c.symbols_ahead-count.ensures.few (sound d) c.requires.no_padding refl (ap (λ s. s.symbols) kept)
+    (ap (λ s. s.padding) kept ∙ c.requires.no_padding) refl c.decode_row.result c.decode_row.ensures.bytes refl
     (some_read d text row (omega arith) c.row_with-row.ensures is c.requires.some.0 c.requires.some.1)
     (put_front p.bytes c.put.new.bytes c.decode_row.result p.len (n / 4 * 3)
     (omega (arith, p.sized, c.requires.room)) (omega arith) c.put.ensures)
