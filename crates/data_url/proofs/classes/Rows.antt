@@ -1,7 +1,8 @@
 -- Classes of bytes, sixteen at a time, and a row made of two. For `classes`, `lanes`, `values` and `percent.rt`.
 use Rattle.std.proofs.Common.{bit_and, true, false, sym, ap, ◌∙◌, ⊎_elim, arith, w8, ◌==◌, ◌||◌, not, drop, length}
 use Rattle.std.proofs.Common.{length-drop, length-take-le, eqb-true, refl, slice_index, ◌≡◌, ℕ, ◌+◌, ◌%◌, ◌^◌, ◌<◌, ◌≤◌}
-use Rattle.std.proofs.Common.{Bool, List, [], ◌∷◌, cond, map, take, bit_or, eqb, ◌&&◌, ◌++◌, nat_lt, suc, zero}
+use Rattle.std.proofs.Common.{Bool, List, [], ◌∷◌, cond, map, replicate, take, bit_or, eqb, ◌&&◌, ◌++◌, nat_lt, suc}
+use Rattle.std.proofs.Common.{zero}
 use Rattle.std.proofs.lemmas.Simd.{bitmask_splat, map-map, none_from_empty_mask, run_in_chunk_fails, trailing_mask_l}
 use Rattle.std.proofs.lemmas.{List.Sums.{prefix_len-le-length}, Bool.{agree_below, agree_below_at, cases_lt}}
 use Rattle.std.proofs.{lemmas.Bool.{false≢true}, lemmas.List.{length-map}, Math.Bool.{and_assoc}}
@@ -10,15 +11,14 @@ use Rattle.data_url.specs.{Steps.Classes.{AreOf, classified, may_be_outside}, de
 use Rattle.data_url.proofs.forgiving_base64.Vectors.{differs, or_zero}
 use lib.Lanes.{fold_l, mask_l, sel_l, top, zip2}
 
--- the bits of the items that differ from 0 are the mask of the row's marked bytes
-pub marks_are : (class_table v found : List ℕ) → length v ≡ 16 → found ≡ map (classified class_table) v
-    → mask_l (map (top 7) (zip2 (λ a b. cond (differs a b) 255 0) found
-    (0 ∷ 0 ∷ 0 ∷ 0 ∷ 0 ∷ 0 ∷ 0 ∷ 0 ∷ 0 ∷ 0 ∷ 0 ∷ 0 ∷ 0 ∷ 0 ∷ 0 ∷ 0 ∷ []))) % 2 ^ 64 ≡ mask_l
-    (map (may_be_outside class_table) v)
-marks_are class_table v found long e =
+-- the bits of the items that differ from 0 are the mask of the marked ones of n bytes
+pub marks_are : (n : ℕ) (class_table v found : List ℕ) → n ≤ 64 → length v ≡ n → found ≡ map (classified class_table) v
+    → mask_l (map (top 7) (zip2 (λ a b. cond (differs a b) 255 0) found (replicate n 0))) % 2 ^ 64
+    ≡ mask_l (map (may_be_outside class_table) v)
+marks_are n class_table v found few long e =
     let size = ap length e ∙ length-map v (classified class_table) ∙ long in
     cc (
-      bitmask_splat w8 differs found 16 0 size (omega arith),
+      bitmask_splat w8 differs found n 0 size few,
       e,
       map-map (λ x. differs x 0) (classified class_table) v,
     )
@@ -54,10 +54,10 @@ sel_from p i (suc q) [] (y ∷ ys) e l = absurd (omega arith)
 sel_from p i (suc q) (x ∷ xs) [] e l = absurd (omega arith)
 sel_from p i (suc q) (x ∷ xs) (y ∷ ys) e l = grind (arith, sel_from p (suc i) q xs ys)
 
--- the first items of a row, and then those of another one
-pub sel_before : (xs ys : List ℕ) (p : ℕ) → length xs ≡ 16 → length ys ≡ 16 → p ≤ 16
-    → sel_l (are_before p 0 16) xs ys ≡ take p xs ++ drop p ys
-sel_before xs ys p e h l = grind (arith, sel_from p 0 p xs ys (e ∙ sym h) (omega arith))
+-- the first of n items, and then those of another list
+pub sel_before : (n : ℕ) (xs ys : List ℕ) (p : ℕ) → length xs ≡ n → length ys ≡ n → p ≤ n
+    → sel_l (are_before p 0 n) xs ys ≡ take p xs ++ drop p ys
+sel_before n xs ys p e h l = grind (arith, sel_from p 0 p xs ys (e ∙ sym h) (omega arith))
 
 -- the bytes before a place are of a class
 pub record Looked (class_table bytes : List ℕ) (at : ℕ) : Type 0 where

@@ -5,6 +5,7 @@ use Rattle.std.proofs.Common.{None, take-add, append_assoc, length-append, ◌/�
 use Rattle.std.proofs.Common.{◌||◌, List, [], ◌∷◌, ◌++◌, map, length, ◌-◌, replicate, zero, suc}
 use Rattle.std.{proofs.Math.Seq.{take-append-add}, proofs.lemmas.Bool.{and_parts}, proofs.lemmas.List.{length-map}}
 use Rattle.std.proofs.lemmas.List.{take-append-le, take_rest, map-append, length-replicate}
+use Rattle.std.proofs.lemmas.List.{take_rest}
 use Rattle.std.{proofs.lemmas.List.Elements.{filter-append}, proofs.lemmas.List.Folds.{list_all-append}}
 use Rattle.std.proofs.lemmas.List.Sums.{list_all-from_AllPass, prefix_len-le-length, prefix_len_passes}
 use Rattle.std.{specs.Char.{is_ascii_whitespace}, specs.List.{list_all, prefix_len, filter, list_any}}
@@ -152,19 +153,19 @@ leaves_then {rest = rest} n l f = rw (take_rest rest n) (record {
 pub row_long : {row : List ℕ} (text : List ℕ) → row ≡ take 16 text → 16 ≤ length text → length row ≡ 16
 row_long text is h = ap length is ∙ length-take-le 16 text h
 
--- sixteen symbols that are a part of a text, with white space taken out in one place, are its first sixteen symbols
-pub over_gap : (text symbols : List ℕ) (p k : ℕ) → p ≤ 16 → 16 + k ≤ length text
-    → symbols ≡ take p text ++ take (16 - p) (drop (p + k) text) → list_all is_symbol symbols ≡ true
-    → list_all is_ascii_whitespace (take k (drop p text)) ≡ true → IsOverGap text symbols k
-over_gap text symbols p k few within is all spaces =
+-- n symbols that are a part of a text, with white space taken out in one place, are its first n symbols
+pub over_gap : (n : ℕ) (text symbols : List ℕ) (p k : ℕ) → p ≤ n → n + k ≤ length text
+    → symbols ≡ take p text ++ take (n - p) (drop (p + k) text) → list_all is_symbol symbols ≡ true
+    → list_all is_ascii_whitespace (take k (drop p text)) ≡ true → IsOverGap n text symbols k
+over_gap n text symbols p k few within is all spaces =
     let x = take p text in
     let gap = take k (drop p text) in
-    let y = take (16 - p) (drop (p + k) text) in
+    let y = take (n - p) (drop (p + k) text) in
     let only = spaces_only gap spaces in
-    let size : 16 + k ≡ p + (k + (16 - p)) = omega arith in
-    let whole : take (16 + k) text ≡ x ++ (gap ++ y) =
-    ap (λ n. take n text) size ∙ take-add p (k + (16 - p)) text
-    ∙ ap (λ t. x ++ t) (take-add k (16 - p) (drop p text) ∙ ap (λ t. gap ++ take (16 - p) t) (drop-drop k p text)) in
+    let size : n + k ≡ p + (k + (n - p)) = omega arith in
+    let whole : take (n + k) text ≡ x ++ (gap ++ y) =
+    ap (λ n. take n text) size ∙ take-add p (k + (n - p)) text
+    ∙ ap (λ t. x ++ t) (take-add k (n - p) (drop p text) ∙ ap (λ t. gap ++ take (n - p) t) (drop-drop k p text)) in
     let each = sym (list_all-append is_symbol x y) ∙ sym (ap (list_all is_symbol) is) ∙ all in
     let parts = and_parts (list_all is_symbol x) (list_all is_symbol y) each in
     let front : filter is_symbol x ≡ x = filter_all is_symbol x (every_list_all x parts.0) in
@@ -176,7 +177,7 @@ over_gap text symbols p k few within is all spaces =
         ap length is,
         length-append x y,
         length-take-le p text (omega arith),
-        length-take-le (16 - p) (drop (p + k) text) (omega (arith, length-drop (p + k) text)),
+        length-take-le (n - p) (drop (p + k) text) (omega (arith, length-drop (p + k) text)),
       );
       spaced = cc (
         whole,
@@ -189,6 +190,15 @@ over_gap text symbols p k few within is all spaces =
       symbols_are =
           cc (whole, filter-append is_symbol x (gap ++ y), filter-append is_symbol gap y, only.0, front, back, is);
     }
+
+-- 64 symbols of a text, from a place on, have no gap
+pub no_gap : (s : List ℕ) (at : ℕ) → at + 64 ≤ length s → list_all is_symbol (take 64 (drop at s)) ≡ true
+    → IsOverGap 64 (take (length s - at) (drop at s)) (take 64 (drop at s)) 0
+no_gap s at within all =
+    let rest = drop at s in
+    let room : 64 + 0 ≤ length rest = omega (arith, length-drop at s) in
+    rw (take_rest s at)
+    (over_gap 64 rest (take 64 rest) 64 0 (omega arith) room (sym (append-nil (take 64 rest))) all refl)
 
 -- the symbols of the groups that a text begins with, and of white space after them, are those of a row with the same
 -- groups at its start

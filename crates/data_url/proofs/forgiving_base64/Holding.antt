@@ -7,22 +7,21 @@ use Rattle.std.proofs.Common.{◌&&◌, ◌||◌, List, [], ◌∷◌, ◌++◌,
 use Rattle.std.proofs.Common.{length-drop, MatchResult, eqb, eqb-true, inl, inr, slice_index, ◌≡◌, ℕ, ◌+◌, ◌-◌, ◌/◌}
 use Rattle.std.proofs.Common.{◌<◌, ◌≤◌, length-take, length-take-le, take-take, Bool, true}
 use Rattle.std.proofs.lemmas.Bool.{and_parts, cases_Bool}
-use Rattle.std.{proofs.lemmas.Bool.{true≢false}, proofs.lemmas.List.{nil_from_length, take_more, take_rest}}
+use Rattle.std.{proofs.lemmas.Bool.{true≢false}, proofs.lemmas.List.{length-map, nil_from_length, take_more, take_rest}}
 use Rattle.std.{proofs.lemmas.List.Folds.{list_all-append, list_all_more}, specs.List.{filter, list_all}}
 use Rattle.std.specs.{Char.{is_ascii_whitespace}, List.{prefix_len}, Option.{option_or}, Result.{result_err}}
 use Rattle.data_url.specs.Base64.{Kind, after_groups, first_fault, groups, is_symbol, left_padding, left_symbols}
 use Rattle.data_url.specs.{Base64.{symbol_value}, Decoder.{Feeds, IsLeft, State, left_over}, Mime.{Every}, Run.{IsRun}}
 use Rattle.data_url.specs.Run.{joined_pieces}
-use Rattle.data_url.specs.Steps.Groups.{AddsGroups, IsWholeGroups, held_bytes, is_symbol_or_space}
+use Rattle.data_url.specs.Steps.Groups.{AddsGroups, IsOverGap, IsWholeGroups, held_bytes, is_symbol_or_space}
 use Rattle.data_url.specs.Steps.Holding.{CallsOnce, Completes, EndsWithin, FeedsFront, Gains, IsBetweenGroups}
 use Rattle.data_url.specs.Steps.Holding.{ReadsHolding}
 use Rattle.data_url.specs.{Steps.Holding.{ReadsTo, Refuses}, Steps.Window.{is_no_hash_or_percent}}
 use Rattle.data_url.specs.declared.forgiving_base64.DecodeError.{DecodeError}
 use Rattle.data_url.specs.declared.forgiving_base64.DecodeError.TheVariants.{InvalidBase64, WriteError}
 use Rattle.data_url.specs.declared.forgiving_base64.held.HeldGroups.{HeldGroups}
-use Rattle.data_url.proofs.forgiving_base64.Groups.{part_taken, prefix_passes, symbols_alone}
-use Rattle.data_url.proofs.forgiving_base64.Padding.{every_list_all}
-use Rattle.data_url.proofs.forgiving_base64.Padding.{fault-append, fault_byte, fault_none, filter_all, is_pad, is_bad}
+use Rattle.data_url.proofs.forgiving_base64.Groups.{groups_size, part_taken, prefix_passes}
+use Rattle.data_url.proofs.forgiving_base64.Padding.{fault-append, fault_byte, fault_none, is_pad, is_bad}
 use Rattle.data_url.proofs.{forgiving_base64.Padding.{length-after_groups, passed}, forgiving_base64.Steps.{IsSound}}
 use Rattle.data_url.proofs.runs.Runs.{joined_pieces-append, match_at, match_none, refusal-append, run-append}
 
@@ -482,16 +481,38 @@ module _ {F E : Type 0} (step : F → List ℕ → Result (Unit {0}) E → F →
     );
   }
 
-  -- a block of symbols is read
-  pub block_reads : {d d1 : State F} {bytes : List ℕ} (s : List ℕ) (at : ℕ) → IsBetweenGroups d1 → at + 64 ≤ length s
-      → true ≡ list_all is_symbol (take 64 (drop at s)) → bytes ≡ groups (map symbol_value (take 64 (drop at s)))
-      → ReadsHolding step d (take at s) [] d1 → ReadsHolding step d (take (at + 64) s) bytes d1
-  block_reads {d} {d1} {bytes} s at none within all is r =
-      let block = take 64 (drop at s) in
-      let long : length block ≡ 64 = length-take-le 64 (drop at s) (omega (arith, length-drop at s)) in
-      let alone = filter_all is_symbol block (every_list_all block (sym all)) in
-      let joined : take at s ++ block ≡ take (at + 64) s = cc (take-add at 64 s) in
-      subst (λ t. ReadsHolding step d t bytes d1) joined (reads_then r (completes_whole block none r.going (record {
-        spaced = symbols_alone block (sym all);
-        whole = omega (arith, long, ap length alone);
-      }) (cc (is, alone))))
+  -- a block of symbols is read, with a gap
+  block_reads : {d d1 : State F} {symbols : List ℕ} {k : ℕ} (s : List ℕ) (at : ℕ) → IsBetweenGroups d1
+      → IsOverGap 64 (take (length s - at) (drop at s)) symbols k → ReadsHolding step d (take at s) [] d1
+      → ReadsHolding step d (take (at + (64 + k)) s) (groups (map symbol_value symbols)) d1
+  block_reads {k = k} s at none gap r = reads_more s at (64 + k) r (completes_whole _ none r.going (record {
+    spaced = gap.spaced;
+    whole = omega (arith, gap.long, ap length gap.symbols_are);
+  }) (ap (λ x. groups (map symbol_value x)) (sym gap.symbols_are)))
+
+  -- a block has bytes
+  block_some : (symbols : List ℕ) → length symbols ≡ 64 → 1 ≤ length (groups (map symbol_value symbols))
+  block_some symbols long =
+      omega (arith, groups_size (map symbol_value symbols), length-map symbols symbol_value, long)
+
+  -- the closure accepts the bytes of a block
+  pub block_called : {d d1 d2 : State F} {symbols : List ℕ} {k : ℕ} (s : List ℕ) (at : ℕ) → IsBetweenGroups d1
+      → IsOverGap 64 (take (length s - at) (drop at s)) symbols k → ReadsHolding step d (take at s) [] d1
+      → CallsOnce step d1 (groups (map symbol_value symbols)) (Ok tt) d2
+      → ReadsHolding step d (take (at + (64 + k)) s) [] d2
+  block_called {symbols = symbols} s at none gap r c =
+      let bytes = groups (map symbol_value symbols) in
+      reads_called bytes [] (omega (arith, block_some symbols gap.long))
+      (rw (append-nil bytes) (block_reads s at none gap r)) c
+
+  -- the closure refuses the bytes of a block
+  pub block_refused : {d d1 d2 : State F} {symbols : List ℕ} {k : ℕ} {x : DecodeError E} (s : List ℕ) (at : ℕ)
+      → at ≤ length s → IsBetweenGroups d1 → IsOverGap 64 (take (length s - at) (drop at s)) symbols k
+      → ReadsHolding step d (take at s) [] d1
+      → CallsOnce step d1 (groups (map symbol_value symbols)) (Err x) d2 → EndsWithin step d s x d2
+  block_refused {symbols = symbols} {k = k} s at within none gap r c =
+      let bytes = groups (map symbol_value symbols) in
+      let reads = block_reads s at none gap r in
+      ends_within (at + (64 + k))
+      (omega (arith, gap.within, within, ap length (take_rest s at), length-drop at s)) reads
+      (reads_refused bytes [] (omega (arith, block_some symbols gap.long)) (rw (append-nil bytes) reads) c)

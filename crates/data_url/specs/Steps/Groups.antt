@@ -19,12 +19,12 @@ pub record IsWholeGroups (text : List ℕ) : Type 0 where
   pub spaced : IsTrue (list_all is_symbol_or_space text)
   pub whole : length (filter is_symbol text) % 4 ≡ 0
 
--- these are the first sixteen symbols of the text, and before the last of them is so much white space
-pub record IsOverGap (text symbols : List ℕ) (spaces : ℕ) : Type 0 where
-  pub within : 16 + spaces ≤ length text
-  pub long : length symbols ≡ 16
-  pub spaced : IsTrue (list_all is_symbol_or_space (take (16 + spaces) text))
-  pub symbols_are : filter is_symbol (take (16 + spaces) text) ≡ symbols
+-- these are the first n symbols of the text, and before the last of them is so much white space
+pub record IsOverGap (n : ℕ) (text symbols : List ℕ) (spaces : ℕ) : Type 0 where
+  pub within : n + spaces ≤ length text
+  pub long : length symbols ≡ n
+  pub spaced : IsTrue (list_all is_symbol_or_space (take (n + spaces) text))
+  pub symbols_are : filter is_symbol (take (n + spaces) text) ≡ symbols
 
 -- the text has only complete groups and white space, and held' is held followed by the bytes of these
 -- groups

@@ -55,6 +55,24 @@ pub(crate) fn spliced(first: u8x16, second: u8x16, at: usize) -> u8x16
         .select(first, second)
 }
 
+/// The places in a block.
+const BLOCK_PLACES: [u8; 64] = [
+    0, 1, 2, 3, 4, 5, 6, 7, 8, 9, 10, 11, 12, 13, 14, 15, 16, 17, 18, 19, 20, 21, 22, 23, 24, 25,
+    26, 27, 28, 29, 30, 31, 32, 33, 34, 35, 36, 37, 38, 39, 40, 41, 42, 43, 44, 45, 46, 47, 48, 49,
+    50, 51, 52, 53, 54, 55, 56, 57, 58, 59, 60, 61, 62, 63,
+];
+
+/// Returns the first `at` bytes of a block, and then those of another one from there on.
+#[inline(always)]
+pub(crate) fn spliced_blocks(first: u8x64, second: u8x64, at: usize) -> u8x64
+    requires { at ≤ 64 }
+    ensures { result ≡ take at first ++ drop at second }
+{
+    u8x64::from_array(BLOCK_PLACES)
+        .simd_lt(u8x64::splat(at as u8))
+        .select(first, second)
+}
+
 /// Returns the bytes of a row from a place on, and then those before it.
 #[inline(always)]
 pub(crate) fn rotated(bytes: u8x16, at: usize) -> u8x16
@@ -180,8 +198,19 @@ pub(crate) fn outside(class_table: &[u8], row: u8x16) -> u64
     found.simd_ne(u8x16::splat(0)).to_bitmask()
 }
 
+/// Returns a bit for each byte of a block, which is set if the byte may be outside the class of a table.
+#[inline(always)]
+pub(crate) fn outside_in_block(class_table: &[u8], block: u8x64) -> u64
+    requires { 16 ≤ length class_table.now }
+    ensures { result ≡ mask_l (map (may_be_outside class_table.now) block) }
+{
+    classified(class_table, block)
+        .simd_ne(u8x64::splat(0))
+        .to_bitmask()
+}
+
 /// Returns whether no byte of a block may be outside the class of a table. As a test for a branch, this takes fewer
-/// instructions than `outside`.
+/// instructions than `outside_in_block`.
 #[inline(always)]
 pub(crate) fn none_outside(class_table: &[u8], block: u8x64) -> bool
     requires { 16 ≤ length class_table.now }

@@ -8,7 +8,7 @@ ghost use Rattle.data_url.specs.Base64.{group_bytes, group_number, groups, is_sy
 ghost use Rattle.data_url.specs.Steps.Groups.{is_symbol_or_space};
 ghost use Rattle.data_url.specs.Steps.Lanes.{DecodesFront, lane_value, number_bytes, numbers, twelves};
 
-use crate::classes::lanes::{none_outside, outside, repeated, row};
+use crate::classes::lanes::{none_outside, outside, outside_in_block, repeated, row};
 use std::simd::prelude::*;
 
 /// For each byte, its value if it is a symbol, and 64 otherwise.
@@ -86,6 +86,15 @@ pub(crate) fn symbols_ahead(bytes: u8x16) -> usize
     ensures starts { result ≡ prefix_len is_symbol bytes }
 {
     (non_symbols(bytes) as u16).trailing_zeros() as usize
+}
+
+/// Returns how many symbols a block begins with.
+#[inline(always)]
+pub(crate) fn symbols_in_block(bytes: u8x64) -> usize
+    ensures few { result ≤ 64 }
+    ensures starts { result ≡ prefix_len is_symbol bytes }
+{
+    outside_in_block(&SYMBOLS, bytes).trailing_zeros() as usize
 }
 
 /// Returns how many bytes that are symbols or white space a row begins with.

@@ -1,9 +1,9 @@
 //! Decoding piece by piece (Infra Standard, forgiving-base64 decode).
 
-ghost use Rattle.std.specs.Prelude.{◌≡◌, ◌%◌, ◌≤◌, Err, length, true, false};
+ghost use Rattle.std.specs.Prelude.{◌≡◌, ◌+◌, ◌%◌, ◌≤◌, Err, length, true, false};
 
-use super::alphabet::{decode_block, group_of, is_of_symbols};
-use super::gaps::spaces_len;
+use super::alphabet::{decode_block, group_of, is_of_symbols, symbols_in_block};
+use super::gaps::{Line, block_over_gap, spaces_len};
 use super::held::{FULL, HeldGroups, SHORT};
 use super::left_over::LeftOver;
 use super::{DecodeError, InvalidBase64, InvalidBase64Details};
@@ -33,9 +33,11 @@ impl<F, E> Decoder<F, E>
 where
     F: FnMut(&[u8]) -> Result<(), E>,
 {
-    ghost use Rattle.std.specs.Fn.{CalledAt};
+    ghost use Rattle.std.specs.{Fn.{CalledAt}, List.{list_all}, Prelude.{IsTrue, map}};
+    ghost use Rattle.data_url.specs.Base64.{groups, is_symbol, symbol_value};
     ghost use Rattle.data_url.specs.Decoder.{Feeds, Finishes, start, state_of};
-    ghost use Rattle.data_url.specs.Steps.Holding.{CallsOnce, FeedsToEscapeOrEnd, Flushes, ReadsStart};
+    ghost use Rattle.data_url.specs.Steps.Holding.{CallsOnce, FeedsToEscapeOrEnd, Flushes};
+    ghost use Rattle.data_url.specs.Steps.Holding.{IsBetweenGroups, ReadsOn, ReadsStart};
     ghost use Rattle.data_url.specs.Steps.Holding.{ReadsUntilFault};
     ghost use Rattle.data_url.specs.Steps.Parts.{HoldsLeft, IsResumed};
 
@@ -104,6 +106,21 @@ where
         answer.map_err(DecodeError::WriteError)
     }
 
+    /// Calls the closure with the bytes of a block of symbols.
+    #[inline(always)]
+    fn write_block(&mut self, block: u8x64) -> Result<(), DecodeError<E>>
+        requires symbols { IsTrue (list_all is_symbol block) }
+        requires callable { F.IsAlwaysCallable (state_of self.old).closure }
+        requires going { (state_of self.old).failed ≡ false }
+        ensures callable { F.IsAlwaysCallable (state_of self.new).closure }
+        ensures called { CallsOnce (CalledAt F.FnMut) (state_of self.old)
+            (groups (map symbol_value block)) result (state_of self.new) }
+    {
+        let mut bytes = [0; BLOCK];
+        decode_block(block).copy_to_slice(&mut bytes);
+        self.write(&bytes[..PIECE])
+    }
+
     /// Calls the closure with the bytes of groups, in pieces of up to 48 bytes.
     #[inline(always)]
     fn flush(&mut self, bytes: &[u8]) -> Result<(), DecodeError<E>>
@@ -134,9 +151,46 @@ where
         DecodeError::InvalidBase64(InvalidBase64 { details })
     }
 
-    /// Calls the closure with the bytes of each block of 64 symbols that a text begins with. Skips white space before a
-    /// block and after the last one. Does nothing if the text is shorter than a block, or if something is left over of
-    /// the text before. Returns how many bytes of the text were read.
+    /// Calls the closure with the bytes of each block of 64 symbols of a text, from a place on. A block may have one
+    /// gap. Skips white space after the last block. Returns the place after it.
+    #[inline(always)]
+    fn read_lines(&mut self, text: &[u8], place: usize) -> Result<usize, DecodeError<E>>
+        requires within { place + 64 ≤ length text.now }
+        requires between { IsBetweenGroups (state_of self.old) }
+        requires callable { F.IsAlwaysCallable (state_of self.old).closure }
+        requires going { (state_of self.old).failed ≡ false }
+        ensures callable { F.IsAlwaysCallable (state_of self.new).closure }
+        ensures read { ReadsOn (CalledAt F.FnMut) (state_of self.old) text.now place result
+            (state_of self.new) }
+    {
+        let last_block = text.len() - BLOCK;
+        let mut at = place;
+        let mut line = Line::first(place);
+        'block: while at <= last_block {
+            let mut before = line.rest_len(at);
+            if before >= BLOCK || text[at + before] > b' ' {
+                let block = u8x64::from_slice(&text[at..]);
+                if is_of_symbols(block) {
+                    self.write_block(block)?;
+                    at += BLOCK;
+                    continue 'block;
+                }
+                before = symbols_in_block(block);
+            }
+            let Some(found) = block_over_gap(&text[at..], before) else {
+                break 'block;
+            };
+            self.write_block(found.0)?;
+            line = line.next(at + before, found.1);
+            at += BLOCK + found.1;
+        }
+        let spaces = spaces_len(&text[at..]);
+        Ok(at + spaces)
+    }
+
+    /// Calls the closure with the bytes of each block of 64 symbols that a text begins with. From the first gap on, it
+    /// reads the text as `read_lines` does. Does nothing if the text is shorter than a block, or if something is left
+    /// over of the text before. Returns how many bytes of the text were read.
     #[inline(always)]
     fn read_blocks(&mut self, text: &[u8]) -> Result<usize, DecodeError<E>>
         requires callable { F.IsAlwaysCallable (state_of self.old).closure }
@@ -150,20 +204,16 @@ where
         }
         let last = text.len() - BLOCK;
         let mut at = 0;
-        while at <= last {
+        'block: while at <= last {
             let block = u8x64::from_slice(&text[at..]);
-            if is_of_symbols(block) {
-                let mut bytes = [0; BLOCK];
-                decode_block(block).copy_to_slice(&mut bytes);
-                self.write(&bytes[..PIECE])?;
-                at += BLOCK;
-            } else {
-                let spaces = spaces_len(&text[at..]);
-                if spaces == 0 {
-                    return Ok(at);
-                }
-                at += spaces;
+            if !is_of_symbols(block) {
+                break 'block;
             }
+            self.write_block(block)?;
+            at += BLOCK;
+        }
+        if at <= last {
+            return self.read_lines(text, at);
         }
         Ok(at + spaces_len(&text[at..]))
     }

@@ -1,8 +1,8 @@
 //! White space between the symbols of base64 (Infra Standard, forgiving-base64 decode, step 1). A gap is the white
 //! space between two symbols. A unit is the symbols of several rows, without the gaps between them.
 
-ghost use Rattle.std.specs.Prelude.{◌≡◌, ◌*◌, ◌+◌, ◌%◌, ◌≤◌, ◌++◌};
-ghost use Rattle.std.specs.Prelude.{IfSome, IsTrue, drop, filter, length, map, slice_index, take, ℕ};
+ghost use Rattle.std.specs.Prelude.{◌≡◌, ◌*◌, ◌+◌, ◌%◌, ◌<◌, ◌≤◌, ◌++◌};
+ghost use Rattle.std.specs.Prelude.{IfSome, IsTrue, drop, false, filter, length, map, slice_index, take, ℕ};
 ghost use Rattle.std.specs.{Char.{is_ascii_whitespace}, List.{list_all, prefix_len}};
 ghost use Rattle.data_url.specs.Base64.{groups, is_symbol, symbol_value};
 ghost use Rattle.data_url.specs.Steps.Groups.{IsOverGap, is_symbol_or_space};
@@ -10,7 +10,7 @@ ghost use Rattle.data_url.specs.Steps.Groups.{IsOverGap, is_symbol_or_space};
 use super::alphabet::{
     decode_row, is_of_symbols, is_spaced, is_symbol, non_symbols, spaced_ahead, symbols_ahead,
 };
-use crate::classes::lanes::{first_row, put, repeated, row, spliced};
+use crate::classes::lanes::{BLOCK, first_row, put, repeated, row, spliced, spliced_blocks};
 use crate::packing::pack_row;
 use std::simd::prelude::*;
 
@@ -58,7 +58,7 @@ pub(crate) fn spaces_after_twelve(text: &[u8], row: u8x16) -> usize
 /// text has fewer than 19 bytes or fewer than sixteen symbols.
 #[inline(always)]
 pub(crate) fn row_over_gap(text: &[u8]) -> Option<(u8x16, usize)>
-    ensures { IfSome result (λ r. IsOverGap text.now r.0 r.1) }
+    ensures { IfSome result (λ r. IsOverGap 16 text.now r.0 r.1) }
 {
     if text.len() < 19 {
         return None;
@@ -74,6 +74,66 @@ pub(crate) fn row_over_gap(text: &[u8]) -> Option<(u8x16, usize)>
         return None;
     }
     Some((symbols, spaces))
+}
+
+/// Where a line of a text begins, and where it is expected to end: where it does if it is as long as the line before.
+#[derive(Clone, Copy)]
+pub(crate) struct Line {
+    start: usize,
+    end: usize,
+}
+
+impl Line {
+    /// Returns the line that begins at a place, of which no end is expected.
+    #[inline(always)]
+    pub(crate) fn first(start: usize) -> Line {
+        Line {
+            start,
+            end: usize::MAX,
+        }
+    }
+
+    /// Returns how many bytes are expected from a place on before the line ends. If no end is expected after the place,
+    /// returns more than a text has.
+    #[inline(always)]
+    pub(crate) fn rest_len(&self, at: usize) -> usize {
+        self.end.wrapping_sub(at)
+    }
+
+    /// Returns the line after one that ends at a place, with so much white space after it.
+    #[inline(always)]
+    pub(crate) fn next(&self, end: usize, spaces: usize) -> Line {
+        let len = end.wrapping_sub(self.start);
+        let start = end.wrapping_add(spaces);
+        Line {
+            start,
+            end: start.wrapping_add(len),
+        }
+    }
+}
+
+/// Returns the first 64 symbols of a text that has one gap before the last of them, after `before` symbols, and the
+/// length of the gap, which may be 0. Returns None if there is another gap, or a byte that is neither a symbol nor
+/// white space. Returns None too if the text has fewer than 64 symbols, or fewer than three bytes after the first
+/// `before` ones.
+#[inline(always)]
+pub(crate) fn block_over_gap(text: &[u8], before: usize) -> Option<(u8x64, usize)>
+    requires { (64 ≤ length text.now) × (before ≤ 64) }
+    ensures { IfSome result (λ r. IsOverGap 64 text.now r.0 r.1) }
+{
+    if text.len() < before + 3 {
+        return None;
+    }
+    let gap = spaces_ahead(&text[before..]);
+    if text.len() - BLOCK < gap {
+        return None;
+    }
+    let first = u8x64::from_slice(text);
+    let symbols = spliced_blocks(first, u8x64::from_slice(&text[gap..]), before);
+    if !is_of_symbols(symbols) {
+        return None;
+    }
+    Some((symbols, gap))
 }
 
 /// Packs the symbols of the rows that a text begins with. It ends before a row with a byte that is neither a symbol nor

@@ -21,5 +21,5 @@ returns c =
     c.spaces_ahead-spaces.ensures.spaces ∙ ap (prefix_len is_ascii_whitespace) (take_rest text p) in
     let all = sym (c.is_of_symbols.ensures ∙ all_in_rows is_symbol c.spliced-symbols.result c.repeated.ensures)
     ∙ c.if-not-is_of_symbols.false in
-    over_gap text c.spliced-symbols.result p k few (omega arith) is all
+    over_gap 16 text c.spliced-symbols.result p k few (omega arith) is all
     (rw spaces (prefix_passes is_ascii_whitespace (drop p text)))

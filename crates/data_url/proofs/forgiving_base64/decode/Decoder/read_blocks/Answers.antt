@@ -1,7 +1,8 @@
-use Rattle.std.proofs.Common.{[], append-nil, length-drop, length-take-le, replicate, sym, take, ◌∙◌, ◌+◌, arith}
-use Rattle.std.{proofs.lemmas.{Result.{err_from_is_err_and}, Simd.{put_chunk_whole}}, specs.Fn.{CalledAt}}
-use Rattle.data_url.proofs.forgiving_base64.Holding.{block_reads, ends_within, reads_called, reads_none}
-use Rattle.data_url.proofs.forgiving_base64.Holding.{reads_on_spaces, reads_refused}
+use Rattle.std.proofs.Common.{length-drop, sym, ◌∙◌, arith}
+use Rattle.std.{proofs.lemmas.Result.{err_from_is_err_and}, specs.Fn.{CalledAt}}
+use Rattle.data_url.proofs.forgiving_base64.Groups.{no_gap}
+use Rattle.data_url.proofs.forgiving_base64.Holding.{block_called, block_refused, reads_none}
+use Rattle.data_url.proofs.forgiving_base64.Holding.{reads_on_spaces}
 use Rattle.data_url.proofs.forgiving_base64.Steps.{sound}
 use Rattle.data_url.proofs.forgiving_base64.decode.Decoder.read_blocks.Goals as goal
 
@@ -9,62 +10,44 @@ pub returns-then-text-lt-BLOCK-clause-read : goal.returns-then-text-lt-BLOCK-cla
 returns-then-text-lt-BLOCK-clause-read g c =
     (omega arith, reads_none (CalledAt g.F.FnMut) (sound c.args.self.now.state) c.requires.going)
 
-pub loop-at-init : goal.loop-at-init
-loop-at-init g c = record {
+pub block-init : goal.block-init
+block-init g c = record {
   callable = c.requires.callable;
   between = c.is_between_groups.ensures c.if-not-is_between_groups.false;
   within = omega arith;
   reads = reads_none (CalledAt g.F.FnMut) (sound c.args.self.now.state) c.requires.going;
 }
 
-pub returns-in_err-write-clause-read : goal.returns-in_err-write-clause-read
-returns-in_err-write-clause-read g c =
-    let step = CalledAt g.F.FnMut in
-    let p = err_from_is_err_and c.from_residual.result c.from_residual.ensures.1 in
-    let i = c.loop-at.invariant in
-    let reads = block_reads step c.args.text.now c.loop-at.at i.between (omega arith)
-    (sym c.if-is_of_symbols.true ∙ c.is_of_symbols.ensures) c.decode_block.ensures.bytes i.reads in
-    let bytes = take 48 c.decode_block.result in
-    let long = length-take-le 48 c.decode_block.result (omega (arith, c.decode_block.ensures.len)) in
-    rw (p.1, p.2) (ends_within step (c.loop-at.at + 64) (omega arith) reads
-    (reads_refused step bytes [] (omega (arith, long)) (rw (append-nil bytes) reads)
-    (rw (put_chunk_whole (replicate 64 0) c.decode_block.result (sym c.decode_block.ensures.len)) at
-    c.in_err-write.ensures.called)))
-
-pub loop-at-preserved-then-is_of_symbols : goal.loop-at-preserved-then-is_of_symbols
-loop-at-preserved-then-is_of_symbols g c =
-    let step = CalledAt g.F.FnMut in
-    let i = c.loop-at.invariant in
-    let w = rw (put_chunk_whole (replicate 64 0) c.decode_block.result (sym c.decode_block.ensures.len)) at
-    c.in_ok-write.ensures.called in
-    let reads = block_reads step c.args.text.now c.loop-at.at i.between (omega arith)
-    (sym c.if-is_of_symbols.true ∙ c.is_of_symbols.ensures) c.decode_block.ensures.bytes i.reads in
-    let bytes = take 48 c.decode_block.result in
-    let long = length-take-le 48 c.decode_block.result (omega (arith, c.decode_block.ensures.len)) in
-    record {
-      callable = c.in_ok-write.ensures.callable;
-      between = (w.symbols_stay ∙ i.between.0, w.padding_stays ∙ i.between.1);
-      within = omega arith;
-      reads = reads_called step bytes [] (omega (arith, long)) (rw (append-nil bytes) reads) w;
-    }
-
-pub loop-at-preserved : goal.loop-at-preserved
-loop-at-preserved g c =
-    let i = c.loop-at.invariant in
-    let spaces = c.spaces_len-spaces in
-    record {
-      callable = i.callable;
-      between = i.between;
-      within = omega (arith, spaces.ensures.within, i.within, length-drop c.loop-at.at c.args.text.now);
-      reads = reads_on_spaces (CalledAt g.F.FnMut) c.args.text.now c.loop-at.at spaces.result
-          (sound c.loop-at.self.state) i.reads spaces.ensures.spaces;
-    }
-
 pub returns-clause-read : goal.returns-clause-read
 returns-clause-read g c =
-    let i = c.loop-at.invariant in
+    let i = c.block.invariant in
     let spaces = c.spaces_len in (
-      omega (arith, spaces.ensures.within, i.within, length-drop c.loop-at.at c.args.text.now),
-      reads_on_spaces (CalledAt g.F.FnMut) c.args.text.now c.loop-at.at spaces.result (sound c.loop-at.self.state)
+      omega (arith, spaces.ensures.within, i.within, length-drop c.block.at c.args.text.now),
+      reads_on_spaces (CalledAt g.F.FnMut) c.args.text.now c.block.at spaces.result (sound c.block.self.state)
           i.reads spaces.ensures.spaces,
     )
+
+pub returns-then-at-last-clause-read : goal.returns-then-at-last-clause-read
+returns-then-at-last-clause-read g c = c.read_lines.ensures.read _ c.block.invariant.reads
+
+pub returns-in_err-write_block-clause-read : goal.returns-in_err-write_block-clause-read
+returns-in_err-write_block-clause-read g c =
+    let i = c.block.invariant in
+    let out = c.from_residual in
+    let p = err_from_is_err_and out.result out.ensures.1 in
+    let all = sym c.is_of_symbols.ensures ∙ c.if-not-is_of_symbols.false in
+    rw (p.1, p.2) (block_refused (CalledAt g.F.FnMut) c.args.text.now c.block.at i.within i.between
+    (no_gap c.args.text.now c.block.at (omega arith) all) i.reads c.in_err-write_block.ensures.called)
+
+pub block-preserved : goal.block-preserved
+block-preserved g c =
+    let i = c.block.invariant in
+    let all = sym c.is_of_symbols.ensures ∙ c.if-not-is_of_symbols.false in
+    let called = c.in_ok-write_block.ensures.called in
+    record {
+      callable = c.in_ok-write_block.ensures.callable;
+      between = (called.symbols_stay ∙ i.between.0, called.padding_stays ∙ i.between.1);
+      within = omega arith;
+      reads = block_called (CalledAt g.F.FnMut) c.args.text.now c.block.at i.between
+          (no_gap c.args.text.now c.block.at (omega arith) all) i.reads called;
+    }

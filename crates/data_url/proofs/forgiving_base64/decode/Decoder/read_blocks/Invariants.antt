@@ -3,13 +3,13 @@ use Rattle.data_url.specs.{Decoder.{state_of}, Steps.Holding.{IsBetweenGroups, R
 use Rattle.data_url.proofs.forgiving_base64.decode.Decoder.read_blocks.Given as goal
 
 -- the closure was called with the bytes of all groups that were read
-abbrev pub invariant-loop-at : goal.invariant-loop-at
-invariant-loop-at g l = record {
+abbrev pub invariant-block : goal.invariant-block
+invariant-block g l = record {
   callable : always_mut g.F.FnMut (state_of l.self).closure;
   between : IsBetweenGroups (state_of l.self);
   within : l.at ≤ length l.text;
   reads : ReadsHolding (CalledAt g.F.FnMut) (state_of l.fn.self) (take l.at l.text) [] (state_of l.self);
 }
 
-abbrev pub decreases-loop-at : goal.decreases-loop-at
-decreases-loop-at g l = length l.text - l.at
+abbrev pub decreases-block : goal.decreases-block
+decreases-block g l = length l.text - l.at

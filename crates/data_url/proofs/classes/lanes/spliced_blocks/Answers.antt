@@ -1,0 +1,5 @@
+use Rattle.data_url.proofs.classes.Rows.{sel_before}
+use Rattle.data_url.proofs.classes.lanes.spliced_blocks.Goals as goal
+
+pub returns : goal.returns
+returns c = sel_before 64 c.args.first c.args.second c.args.at c.fits-first.0 c.fits-second.0 c.requires
