@@ -131,13 +131,22 @@ impl<F: FnMut(&[u8]) -> Result<(), E>, E> Decoder<F, E> {
         self.feed_through::<LONG>(input)
     }
 
-    /// Feeds as `feed` does, through a buffer of `N` bytes.
+    /// Feeds as `feed` does, through a buffer of `N` bytes. Before a long part that would begin within a group, feeds
+    /// the bytes that complete the group, since the library decodes blocks of 64 symbols that begin with a group.
     #[inline(always)]
     fn feed_through<const N: usize>(&mut self, input: &[u8]) -> Result<(), DecodeError<E>> {
         let mut buffer = Buffer::<N>::new();
         let mut rest = input;
+        let mut completes = false;
         while self.status == DONE && !rest.is_empty() {
-            let (status, bytes, read) = self.state.feed(rest, &mut buffer);
+            completes = N == LONG && !completes && self.state.missing() > 0;
+            let most = if completes {
+                self.state.missing()
+            } else {
+                rest.len()
+            };
+            let part = &rest[..most.min(rest.len())];
+            let (status, bytes, read) = self.state.feed(part, &mut buffer);
             self.status = status;
             rest = &rest[read..];
             if !bytes.is_empty() {

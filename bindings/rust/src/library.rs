@@ -418,6 +418,12 @@ impl Base64 {
         (fed.status, buffer.written(fed.len), fed.read)
     }
 
+    /// How many symbols the group of the symbols left over lacks, or 0 if none are left over.
+    #[inline(always)]
+    pub(crate) fn missing(&self) -> usize {
+        (4 - usize::from(self.pending)) % 4
+    }
+
     /// Whether nothing is left over: the text is valid then, and has no more bytes.
     pub(crate) fn is_whole(&self) -> bool {
         self.pending == 0 && self.padding == 0

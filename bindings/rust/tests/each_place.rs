@@ -294,6 +294,20 @@ fn lines(width: usize, count: usize) -> String {
     (0..count).map(|_| line()).collect()
 }
 
+/// Parts of 512 bytes and more are fed through a larger buffer. If symbols are left over, their group is completed
+/// first, by symbols, white space, padding or a fault.
+#[test]
+fn long_parts_that_begin_within_a_group() {
+    for between in &["", "     ", "=", "=Q", "!"] {
+        let text = format!("{}{}{}", lines(76, 20), between, lines(75, 20));
+        let (bytes, message) = assert_base64(text.as_bytes());
+        for size in 512..600 {
+            let parts: Vec<&[u8]> = text.as_bytes().chunks(size).collect();
+            assert_fed(&parts, &bytes, &message);
+        }
+    }
+}
+
 /// Parts of a text that may be in base64 in lines: escapes, what is skipped, faults, and the end of the body.
 const BETWEEN_SYMBOLS: [&str; 8] = ["%41", "%2B", "%0A", "%4\n\t1", "\t", "%", "=", "#"];
 

@@ -84,8 +84,9 @@ where
 }
 
 /// Decodes a tail up to its first `#` or `%`, in parts of at most 16 KiB, which is the most that
-/// `feed_to_escape_or_end` accepts. So the decoder cannot read far past a fault. Returns the place of the `#` or `%`,
-/// or the length of the tail.
+/// `feed_to_escape_or_end` accepts. So the decoder cannot read far past a fault. Before a part that would begin within
+/// a group, the bytes that complete the group are fed, since blocks of 64 symbols begin with a group. Returns the place
+/// of the `#` or `%`, or the length of the tail.
 fn feed_front<F, E>(decoder: &mut Decoder<F, E>, tail: &[u8]) -> Result<usize, DecodeError<E>>
 where
     F: FnMut(&[u8]) -> Result<(), E>,
@@ -96,9 +97,13 @@ where
         (state_of decoder.new) }
 {
     let mut place = 0;
+    let mut completes = false;
     while place < tail.len() {
         let rest = &tail[place..];
-        let part = &rest[..rest.len().min(FED_AT_ONCE)];
+        let pending = decoder.left_over().pending();
+        completes = !completes && pending > 0;
+        let most = if completes { 4 - pending } else { FED_AT_ONCE };
+        let part = &rest[..rest.len().min(most)];
         let len = decoder.feed_to_escape_or_end(part)?;
         place += len;
         if len < part.len() {

@@ -1,14 +1,15 @@
 -- Blocks of a text and their marks: lanes that are looked up in a table and compared. For `marks_of` and
 -- `next_mark`.
 use Rattle.std.proofs.Common.{slice_index, Bool, Fits, List, ap, arith, bit_and, cond, drop, eqb, get_or, inl}
-use Rattle.std.proofs.Common.{inr}
+use Rattle.std.proofs.Common.{inr, zero, [], ℕ, ◌%◌, ◌++◌, ◌+◌, ◌-◌, ◌/◌, ◌<◌, ◌*◌}
 use Rattle.std.proofs.Common.{leb, length, length-take-le, map, map-id, not, refl, replicate, slice_range, suc}
-use Rattle.std.proofs.Common.{sym, take, take-take, take_all, w8, zero, [], ℕ, ◌%◌, ◌++◌, ◌+◌, ◌-◌, ◌/◌, ◌<◌}
+use Rattle.std.proofs.Common.{sym, take, take-add, take-take, take_all, w8}
 use Rattle.std.proofs.{Common.{◌^◌, ◌∙◌, ◌∷◌, ◌≡◌, ◌≢◌, ◌≤◌}, Math.Nat.{div-div-eq-div-mul, pow-suc}}
 use Rattle.std.proofs.{Math.Seq.{take-append-add}, lemmas.Bool.{agree_below_at, cases_Bool, cases_lt}}
 use Rattle.std.proofs.lemmas.List.{drop-drop, drop-map, drop-replicate, drop-take, drop_all, drop_more, get_or-drop}
-use Rattle.std.proofs.lemmas.{List.{length-drop, length-map, length-take, take-append-le, take_rest}, Nat.{and_le_r}}
-use Rattle.std.proofs.lemmas.Simd.{SwzOk, bitmask_splat, mask_l-mod}
+use Rattle.std.proofs.lemmas.{List.{length-drop, length-map, length-take, map-append, take-append-le}, Nat.{and_le_r}}
+use Rattle.std.proofs.lemmas.List.{take-replicate, take_rest}
+use Rattle.std.proofs.lemmas.Simd.{SwzOk, bitmask_splat, mask_l-lt, mask_l-mod}
 use Rattle.std.proofs.lemmas.Simd.{none_from_empty_mask, put_chunk_whole, run_in_chunk_fails, run_in_chunk_le}
 use Rattle.std.proofs.lemmas.Simd.{run_in_chunk_stops, swz_l, tops_compared, trailing_mask_l, zip2_of_maps, zip2_splat}
 use Rattle.std.specs.{Int.Count.{count_trailing_zeros}, List.{prefix_len}, Simd.Lanes.{Each1, chunk, mask_l}}
@@ -61,9 +62,71 @@ mask_later [] (suc k) = omega arith
 mask_later (b ∷ bs) (suc k) =
     grind (arith, pow-suc 2 k, div-div-eq-div-mul (mask_l (b ∷ bs)) 2 (2 ^ k), cases_Bool b, mask_later bs k)
 
+-- the mask of two lists is that of the first, and that of the second shifted
+mask_append : (xs ys : List Bool) → mask_l (xs ++ ys) ≡ mask_l xs + mask_l ys * 2 ^ length xs
+mask_append [] ys = omega arith
+mask_append (b ∷ xs) ys =
+    let n = length xs in
+    let twice : mask_l ys * 2 ^ suc n ≡ 2 * (mask_l ys * 2 ^ n) =
+    omega (arith, ap (λ z. mask_l ys * z) (pow-suc 2 n)) in
+    omega (arith, twice, mask_append xs ys)
+
+-- the lowest 16 bits of a mask are the marks of the first row
+pub marks_row : (v w : List ℕ) → length v ≡ 16 → mask_l (map is_marked (v ++ w)) % 65536 ≡ mask_l (map is_marked v)
+marks_row v w long =
+    let bits = map is_marked v in
+    let sized : length bits ≡ 16 = length-map v is_marked ∙ long in
+    let joined = ap mask_l (map-append is_marked v w) ∙ mask_append bits (map is_marked w) in
+    let shifted = ap (λ n. mask_l (map is_marked w) * 2 ^ n) sized in
+    omega (arith, joined, shifted, rw sized at (mask_l-lt bits))
+
+-- the marks of the first bytes of a text and, shifted, those of n bytes after them
+pub marks_more : (t : List ℕ) (at n : ℕ) {x : ℕ} → at + n ≤ length t → length t < 64
+    → x ≡ mask_l (map is_marked (take n (drop at t)))
+    → (mask_l (map is_marked (take at t)) + x * 2 ^ at % 2 ^ 64 ≡ mask_l (map is_marked (take (at + n) t)))
+    × (mask_l (map is_marked (take (at + n) t)) < 2 ^ 64)
+marks_more t at n {x} within short is =
+    let bits = map is_marked (take at t) in
+    let sized : length bits ≡ at = length-map (take at t) is_marked ∙ length-take-le at t (omega arith) in
+    let whole = take (at + n) t in
+    let long = length-map whole is_marked ∙ length-take-le (at + n) t within in
+    let fits = mask_l-mod (map is_marked whole) 64 (omega (arith, long)) in
+    let joined : mask_l (map is_marked whole) ≡ mask_l bits + x * 2 ^ at =
+    ap (λ s. mask_l (map is_marked s)) (take-add at n t)
+    ∙ ap mask_l (map-append is_marked (take at t) (take n (drop at t)))
+    ∙ mask_append bits _ ∙ cc (is, sized) in
+    (omega (arith, joined, fits), omega (arith, fits))
+
+-- the marks of a text that is shorter than a row
+pub marks_short : (t : List ℕ) → length t < 16
+    → mask_l (map is_marked (take 16 (t ++ replicate 16 0))) ≡ mask_l (map is_marked t)
+marks_short t short =
+    let e : length t + (16 - length t) ≡ 16 = omega arith in
+    let row : take 16 (t ++ replicate 16 0) ≡ t ++ replicate (16 - length t) 0 =
+    ap (λ n. take n (t ++ replicate 16 0)) (sym e) ∙ take-append-add t (replicate 16 0) (16 - length t)
+    ∙ ap (λ z. t ++ z) (take-replicate (16 - length t) 16 0 (omega arith)) in
+    ap (λ s. mask_l (map is_marked s)) row ∙ marks_padded t (16 - length t)
+
 -- the first n items without the first k are n - k items after the first k
 pub drop_taken : (k n : ℕ) (xs : List ℕ) → drop k (take n xs) ≡ take (n - k) (drop k xs)
 drop_taken k n xs = grind (arith, cases_lt n k, drop-take k (n - k) xs, drop_all k (take n xs), length-take)
+
+-- the marks of the bytes before an index and, shifted, those of the last row without the bytes before the index
+pub marks_end : (t : List ℕ) (at : ℕ) {x : ℕ} → 16 ≤ length t → length t < 64 → length t - 16 ≤ at → at ≤ length t
+    → x ≡ mask_l (map is_marked (take 16 (drop (length t - 16) t)))
+    → (mask_l (map is_marked (take at t)) + x / 2 ^ (at - (length t - 16)) * 2 ^ at % 2 ^ 64 ≡ mask_l (map is_marked t))
+    × (mask_l (map is_marked t) < 2 ^ 64)
+marks_end t at {x} long short after within is =
+    let last = length t - 16 in
+    let k = at - last in
+    let row = take 16 (drop last t) in
+    let rest : 16 - k ≡ length t - at = omega arith in
+    let there : last + k ≡ at = omega arith in
+    let enough : at + (length t - at) ≤ length t = omega arith in
+    let whole : take (at + (length t - at)) t ≡ t = take_all (at + (length t - at)) t (omega arith) in
+    let marks = ap (λ m. m / 2 ^ k) is ∙ mask_later (map is_marked row) k ∙ ap mask_l (drop-map is_marked k row)
+    ∙ ap (λ s. mask_l (map is_marked s)) (drop_taken k 16 (drop last t) ∙ cc (drop-drop k last t, rest, there)) in
+    rw whole at (marks_more t at (length t - at) enough short marks)
 
 -- The marks of a block: lanes that are looked up in a table and compared.
 

@@ -94,7 +94,8 @@ ReadsStart step d text r d' =
 -- d reads on in a text that was read up to a place, whichever decoder read it
 abbrev pub ReadsOn : {F E : Type 0} → (F → List ℕ → Result (Unit {0}) E → F → Type 0) → State F → List ℕ
     → ℕ → Result ℕ (DecodeError E) → State F → Type 0
-ReadsOn step d text place r d' = (d0 : _) → ReadsHolding step d0 (take place text) [] d → ReadsStart step d0 text r d'
+ReadsOn step d text place r d' =
+    (d0 : _) → ReadsHolding step d0 (take place text) [] d → ReadsStart step d0 text r d'
 
 -- d reads the text up to its first fault, or the closure returns an error before that
 abbrev pub ReadsUntilFault : {F E : Type 0} → (F → List ℕ → Result (Unit {0}) E → F → Type 0)

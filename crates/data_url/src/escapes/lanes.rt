@@ -7,7 +7,7 @@ ghost use Rattle.data_url.specs.Steps.Escapes.{escape_starts, place_values, stop
 ghost use Rattle.data_url.specs.Steps.Window.{is_marked};
 ghost use Rattle.data_url.specs.Url.{is_tab_or_newline, percent_sign};
 
-use crate::classes::lanes::{BLOCK, repeated, row};
+use crate::classes::lanes::{BLOCK, ROW, first_row, repeated, row};
 use std::simd::prelude::*;
 
 /// For each low half of a byte, the marked byte that has this low half. If there is none, the entry has another low
@@ -42,14 +42,36 @@ pub(super) fn padded(rest: &[u8]) -> u8x64
     u8x64::from_array(block)
 }
 
-/// Returns the marks of fewer than 64 bytes.
+/// Returns the marks of a row.
+#[inline(always)]
+fn row_marks(bytes: u8x16) -> u64
+    ensures few { result < 65536 }
+    ensures marks { result ≡ mask_l (map is_marked bytes) }
+{
+    marks_of(repeated(bytes), false) % 65536
+}
+
+/// Returns the marks of fewer than 64 bytes. A row that is not whole is read with bytes before it, and their marks are
+/// shifted out.
 #[inline(never)]
-#[tactic(auto, using(crate::proofs::escapes::BlockMarks::padding))]
 pub(super) fn last_marks(rest: &[u8]) -> u64
     requires { length rest.now < 64 }
     ensures { result ≡ mask_l (map is_marked rest.now) }
 {
-    marks_of(padded(rest), false)
+    if rest.len() < ROW {
+        return row_marks(first_row(rest));
+    }
+    let last = rest.len() - ROW;
+    let mut marks = 0;
+    let mut at = 0;
+    while at <= last {
+        marks += row_marks(row(rest, at)) << at;
+        at += ROW;
+    }
+    if at == rest.len() {
+        return marks;
+    }
+    marks + (row_marks(row(rest, last)) >> (at - last) << at)
 }
 
 /// For each place of a block, the next one.

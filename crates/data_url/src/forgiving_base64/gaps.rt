@@ -1,8 +1,8 @@
 //! White space between the symbols of base64 (Infra Standard, forgiving-base64 decode, step 1). A gap is the white
 //! space between two symbols. A unit is the symbols of several rows, without the gaps between them.
 
-ghost use Rattle.std.specs.Prelude.{◌≡◌, ◌*◌, ◌+◌, ◌%◌, ◌<◌, ◌≤◌, ◌++◌};
-ghost use Rattle.std.specs.Prelude.{IfSome, IsTrue, drop, false, filter, length, map, slice_index, take, ℕ};
+ghost use Rattle.std.specs.Prelude.{◌≡◌, ◌*◌, ◌+◌, ◌%◌, ◌≤◌, ◌++◌};
+ghost use Rattle.std.specs.Prelude.{IfSome, IsTrue, drop, filter, length, map, slice_index, take, ℕ};
 ghost use Rattle.std.specs.{Char.{is_ascii_whitespace}, List.{list_all, prefix_len}};
 ghost use Rattle.data_url.specs.Base64.{groups, is_symbol, symbol_value};
 ghost use Rattle.data_url.specs.Steps.Groups.{IsOverGap, is_symbol_or_space};
