@@ -131,8 +131,9 @@ impl<F: FnMut(&[u8]) -> Result<(), E>, E> Decoder<F, E> {
         self.feed_through::<LONG>(input)
     }
 
-    /// Feeds as `feed` does, through a buffer of `N` bytes. Before a long part that would begin within a group, feeds
-    /// the bytes that complete the group, since the library decodes blocks of 64 symbols that begin with a group.
+    /// Feeds as `feed` does, through a buffer of `N` bytes. Through the larger one, if symbols are left over, it first
+    /// feeds as many bytes as their group lacks symbols, once before each part. The library decodes blocks of 64
+    /// symbols only from the start of a group.
     #[inline(always)]
     fn feed_through<const N: usize>(&mut self, input: &[u8]) -> Result<(), DecodeError<E>> {
         let mut buffer = Buffer::<N>::new();

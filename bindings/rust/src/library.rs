@@ -418,7 +418,8 @@ impl Base64 {
         (fed.status, buffer.written(fed.len), fed.read)
     }
 
-    /// How many symbols the group of the symbols left over lacks, or 0 if none are left over.
+    /// How many symbols the group of the symbols left over lacks, or 0 if none are left over. After a fault it must not
+    /// be called.
     #[inline(always)]
     pub(crate) fn missing(&self) -> usize {
         (4 - usize::from(self.pending)) % 4

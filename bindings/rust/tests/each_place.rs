@@ -294,16 +294,23 @@ fn lines(width: usize, count: usize) -> String {
     (0..count).map(|_| line()).collect()
 }
 
-/// Parts of 512 bytes and more are fed through a larger buffer. If symbols are left over, their group is completed
-/// first, by symbols, white space, padding or a fault.
+/// Parts of 512 bytes and more are fed through a larger buffer. If symbols are left over, as many bytes as their group
+/// lacks are fed first. They may be symbols, white space, padding or a fault.
 #[test]
 fn long_parts_that_begin_within_a_group() {
-    for between in &["", "     ", "=", "=Q", "!"] {
-        let text = format!("{}{}{}", lines(76, 20), between, lines(75, 20));
-        let (bytes, message) = assert_base64(text.as_bytes());
-        for size in 512..600 {
-            let parts: Vec<&[u8]> = text.as_bytes().chunks(size).collect();
-            assert_fed(&parts, &bytes, &message);
+    for between in &["", "     ", "\n", "=", "==", "===", "=Q", "!"] {
+        for width in 73..77 {
+            let front = format!("{}{}", lines(76, 10), lines(width, 1));
+            let text = format!("{}{}{}", front, between, lines(75, 20));
+            let (bytes, message) = assert_base64(text.as_bytes());
+            for cut in front.len() - 4..front.len() + 4 {
+                let (front, back) = text.as_bytes().split_at(cut);
+                assert_fed(&[front, back], &bytes, &message);
+            }
+            for size in 512..600 {
+                let parts: Vec<&[u8]> = text.as_bytes().chunks(size).collect();
+                assert_fed(&parts, &bytes, &message);
+            }
         }
     }
 }
