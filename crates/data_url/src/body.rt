@@ -84,9 +84,10 @@ where
 }
 
 /// Decodes a tail up to its first `#` or `%`, in parts of at most 16 KiB, which is the most that
-/// `feed_to_escape_or_end` accepts. So the decoder cannot read far past a fault. Before a part that would begin within
-/// a group, the bytes that complete the group are fed, since blocks of 64 symbols begin with a group. Returns the place
-/// of the `#` or `%`, or the length of the tail.
+/// `feed_to_escape_or_end` accepts. So the decoder cannot read far past a fault. Blocks of 64 symbols are decoded only
+/// from the start of a group. So before a part that begins within a group, feeds as many bytes as the group lacks
+/// symbols. It does so once before each part, even if there is white space among these bytes. Returns the place of the
+/// `#` or `%`, or the length of the tail.
 fn feed_front<F, E>(decoder: &mut Decoder<F, E>, tail: &[u8]) -> Result<usize, DecodeError<E>>
 where
     F: FnMut(&[u8]) -> Result<(), E>,
@@ -97,12 +98,16 @@ where
         (state_of decoder.new) }
 {
     let mut place = 0;
-    let mut completes = false;
+    let mut completes_group = false;
     while place < tail.len() {
         let rest = &tail[place..];
         let pending = decoder.left_over().pending();
-        completes = !completes && pending > 0;
-        let most = if completes { 4 - pending } else { FED_AT_ONCE };
+        completes_group = !completes_group && pending > 0;
+        let most = if completes_group {
+            4 - pending
+        } else {
+            FED_AT_ONCE
+        };
         let part = &rest[..rest.len().min(most)];
         let len = decoder.feed_to_escape_or_end(part)?;
         place += len;

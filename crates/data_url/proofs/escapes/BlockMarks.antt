@@ -1,5 +1,5 @@
--- Blocks of a text and their marks: lanes that are looked up in a table and compared. For `marks_of` and
--- `next_mark`.
+-- Blocks and rows of a text and their marks: lanes that are looked up in a table and compared. For `marks_of`,
+-- `row_marks`, `last_marks`, `padded` and `next_mark`.
 use Rattle.std.proofs.Common.{slice_index, Bool, Fits, List, ap, arith, bit_and, cond, drop, eqb, get_or, inl}
 use Rattle.std.proofs.Common.{inr, zero, [], ℕ, ◌%◌, ◌++◌, ◌+◌, ◌-◌, ◌/◌, ◌<◌, ◌*◌}
 use Rattle.std.proofs.Common.{leb, length, length-take-le, map, map-id, not, refl, replicate, slice_range, suc}

@@ -311,16 +311,16 @@ module _ {q text row bytes : List ℕ} {read count : ℕ} (r : Rows q text row b
       }
 
   -- the row goes on with the symbols that follow
-  pub rows_joined : {row' next : List ℕ} {count' : ℕ} → next ≡ take 16 (drop read text ++ replicate 16 0)
-      → row' ≡ take count row ++ take (16 - count) next → count' ≡ prefix_len is_symbol row'
-      → Rows q text row' bytes (read + (count' - count)) count' × (count ≤ count')
-  rows_joined {row'} {next} {count'} front is ahead =
+  pub rows_joined : {row' : List ℕ} {count' : ℕ}
+      → row' ≡ take count row ++ take (16 - count) (drop read text ++ replicate 16 0)
+      → count' ≡ prefix_len is_symbol row' → Rows q text row' bytes (read + (count' - count)) count' × (count ≤ count')
+  rows_joined {row'} {count'} is ahead =
       let n = count' - count in
       let u = drop read text in
       let sized = length-take-le count row (omega (arith, few, long)) in
       let j : Joins is_symbol (take count row) u row' n =
       rw ahead (joins is_symbol (take count row) u row' count refl sized few r.in_row
-      (cc (is, front, take-take (16 - count) 16 (u ++ replicate 16 0) (omega arith)))) in
+      is) in
       let symbols : take count' row' ≡ take count row ++ take n u = ap (λ k. take k row') (ahead ∙ j.count) ∙ j.same in
       let alone = (and_parts (list_all is_symbol (take count row)) (list_all is_symbol (take n u))
       (sym (list_all-append is_symbol (take count row) (take n u)) ∙ j.all)).1 in (

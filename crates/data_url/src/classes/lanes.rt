@@ -85,7 +85,7 @@ pub(crate) fn rotated(bytes: u8x16, at: usize) -> u8x16
 /// Returns the row of a text of at least sixteen bytes that begins at a place. If the text ends before the row does,
 /// zeros follow.
 #[inline(always)]
-pub(crate) fn row_from(text: &[u8], at: usize) -> u8x16
+fn row_from(text: &[u8], at: usize) -> u8x16
     requires { (16 ≤ length text.now) × (at ≤ length text.now) }
     ensures { result ≡ take 16 (drop at text.now ++ replicate 16 0) }
 {
@@ -107,6 +107,23 @@ pub(crate) fn joined(first: u8x16, second: u8x16, count: usize) -> u8x16
         return second;
     }
     spliced(first, rotated(second, ROW - count), count)
+}
+
+/// Returns a row of the first `count` bytes of a row, and then the bytes of a text from a place on. The text has at
+/// least sixteen bytes. If it ends before the row does, zeros follow.
+#[inline(always)]
+pub(crate) fn continued(first: u8x16, count: usize, text: &[u8], at: usize) -> u8x16
+    requires within { (16 ≤ length text.now) × (at ≤ length text.now) }
+    requires few { count ≤ 16 }
+    ensures { result ≡ take count first
+        ++ take (16 - count) (drop at text.now ++ replicate 16 0) }
+{
+    match count {
+        0 => row_from(text, at),
+        _ if count > at => joined(first, row_from(text, at), count),
+        // In the row that begins so much earlier, the bytes from the place on are where they belong.
+        _ => spliced(first, row_from(text, at - count), count),
+    }
 }
 
 /// The places in a quarter of a row, four times.

@@ -42,17 +42,16 @@ pub(super) fn padded(rest: &[u8]) -> u8x64
     u8x64::from_array(block)
 }
 
-/// Returns the marks of a row.
+/// Returns the marks of a row: bit k is set if byte k is marked.
 #[inline(always)]
 fn row_marks(bytes: u8x16) -> u64
-    ensures few { result < 65536 }
-    ensures marks { result ≡ mask_l (map is_marked bytes) }
+    ensures { result ≡ mask_l (map is_marked bytes) }
 {
     marks_of(repeated(bytes), false) % 65536
 }
 
-/// Returns the marks of fewer than 64 bytes. A row that is not whole is read with bytes before it, and their marks are
-/// shifted out.
+/// Returns the marks of fewer than 64 bytes, row by row. The last row ends where the bytes end, and the marks of those
+/// that an earlier row has are shifted out. If there are fewer than sixteen bytes, zeros follow them in their row.
 #[inline(never)]
 pub(super) fn last_marks(rest: &[u8]) -> u64
     requires { length rest.now < 64 }

@@ -212,6 +212,9 @@ where
             self.write_block(block)?;
             at += BLOCK;
         }
+        if at == text.len() {
+            return Ok(at);
+        }
         if at <= last {
             return self.read_lines(text, at);
         }

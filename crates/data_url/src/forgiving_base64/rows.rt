@@ -14,7 +14,9 @@ use super::gaps::{
 };
 use super::held::{FULL, HeldGroups};
 use super::left_over::LeftOver;
-use crate::classes::lanes::{BLOCK, ROW, first_row, joined, put, repeated, rotated, row, row_from};
+use crate::classes::lanes::{
+    BLOCK, ROW, continued, first_row, joined, put, repeated, rotated, row,
+};
 use std::simd::prelude::*;
 
 impl HeldGroups {
@@ -198,7 +200,7 @@ impl LeftOver {
         let mut len = 0;
         let mut line = 0;
         'rows: while at < text.len() {
-            row = joined(row, row_from(text, at), have);
+            row = continued(row, have, text, at);
             let count = symbols_ahead(row);
             if count == ROW {
                 put(bytes, len, decode_row(row));

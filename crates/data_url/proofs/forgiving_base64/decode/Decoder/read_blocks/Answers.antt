@@ -27,6 +27,9 @@ returns-clause-read g c =
           i.reads spaces.ensures.spaces,
     )
 
+pub returns-then-at-text-clause-read : goal.returns-then-at-text-clause-read
+returns-then-at-text-clause-read g c = (omega arith, c.block.invariant.reads)
+
 pub returns-then-at-last-clause-read : goal.returns-then-at-last-clause-read
 returns-then-at-last-clause-read g c = c.read_lines.ensures.read _ c.block.invariant.reads
 

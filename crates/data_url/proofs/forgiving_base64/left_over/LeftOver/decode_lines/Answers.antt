@@ -20,11 +20,11 @@ rows-init c =
 
 -- the row has the symbols that follow
 followed : (c : goal.Else-count-eq-ROW) → Rows (take c.args.self.now.pending c.args.self.now.symbols) c.args.text.now
-    c.joined-row.result (take c.rows.len c.rows.bytes)
+    c.continued-row.result (take c.rows.len c.rows.bytes)
     (c.rows.at + (c.symbols_ahead-count.result - c.rows.have)) c.symbols_ahead-count.result
     × (c.rows.have ≤ c.symbols_ahead-count.result)
 followed c =
-    rows_joined c.rows.invariant.rows c.rows.invariant.long c.rows.invariant.few c.row_from.ensures c.joined-row.ensures
+    rows_joined c.rows.invariant.rows c.rows.invariant.long c.rows.invariant.few c.continued-row.ensures
     c.symbols_ahead-count.ensures.starts
 
 pub overflow_sub-at-else-count-eq-ROW : goal.overflow_sub-at-else-count-eq-ROW
@@ -40,7 +40,7 @@ pub rows-preserved-then-count-eq-ROW : goal.rows-preserved-then-count-eq-ROW
 rows-preserved-then-count-eq-ROW c =
     let l = c.rows in
     let full = c.if-count-eq-ROW.true in
-    let joined = rows_joined l.invariant.rows l.invariant.long l.invariant.few c.row_from.ensures c.joined-row.ensures
+    let joined = rows_joined l.invariant.rows l.invariant.long l.invariant.few c.continued-row.ensures
     c.symbols_ahead-count.ensures.starts in
     record {
       line = omega (arith, l.invariant.line);
@@ -55,14 +55,14 @@ rows-preserved-then-count-eq-ROW c =
 pub rows-smaller-then-count-eq-ROW : goal.rows-smaller-then-count-eq-ROW
 rows-smaller-then-count-eq-ROW c =
     let l = c.rows in
-    let joined = rows_joined l.invariant.rows l.invariant.long l.invariant.few c.row_from.ensures c.joined-row.ensures
+    let joined = rows_joined l.invariant.rows l.invariant.long l.invariant.few c.continued-row.ensures
     c.symbols_ahead-count.ensures.starts in
     omega (arith, c.if-count-eq-ROW.true, joined.0.within, joined.1)
 
 pub rows-preserved : goal.rows-preserved
 rows-preserved c =
     let l = c.rows in
-    let joined = rows_joined l.invariant.rows l.invariant.long l.invariant.few c.row_from.ensures c.joined-row.ensures
+    let joined = rows_joined l.invariant.rows l.invariant.long l.invariant.few c.continued-row.ensures
     c.symbols_ahead-count.ensures.starts in
     record {
       line = omega arith;
@@ -77,7 +77,7 @@ rows-preserved c =
 pub rows-smaller : goal.rows-smaller
 rows-smaller c =
     let l = c.rows in
-    let joined = rows_joined l.invariant.rows l.invariant.long l.invariant.few c.row_from.ensures c.joined-row.ensures
+    let joined = rows_joined l.invariant.rows l.invariant.long l.invariant.few c.continued-row.ensures
     c.symbols_ahead-count.ensures.starts in
     omega (arith, c.if-spaces-eq0.false, joined.0.within, joined.1, (rows-preserved c).rows.within)
 
@@ -87,8 +87,8 @@ keep_after_groups-requires-clause-symbols c =
     elim c.rows-test.branch [
       | goal.else-rows-test w ↦ rw (w.row-is, w.have-is) l.invariant.rows.in_row
       | goal.then-rows-test+else-count-eq-ROW+then-spaces-eq0 w ↦
-          let more = rows_joined l.invariant.rows l.invariant.long l.invariant.few w.row_from.ensures
-          w.joined-row.ensures w.symbols_ahead-count.ensures.starts in
+          let more = rows_joined l.invariant.rows l.invariant.long l.invariant.few w.continued-row.ensures
+          w.symbols_ahead-count.ensures.starts in
           rw (w.row-is, w.have-is) more.0.in_row
     ]
 
@@ -106,8 +106,8 @@ ended c =
       | goal.then-rows-test+else-count-eq-ROW+then-spaces-eq0 w ↦
           let long = sym (ap length w.row-is) ∙ e.auto.row.0 in
           let few = w.symbols_ahead-count.ensures.few in
-          let more = rows_joined l.invariant.rows l.invariant.long l.invariant.few w.row_from.ensures
-          w.joined-row.ensures w.symbols_ahead-count.ensures.starts in
+          let more = rows_joined l.invariant.rows l.invariant.long l.invariant.few w.continued-row.ensures
+          w.symbols_ahead-count.ensures.starts in
           rw (w.row-is, w.at-is, w.have-is) (
             rows_spaces more.0 long few w.spaces_len-spaces.ensures.spaces,
             (few, omega (arith, l.invariant.size, more.1)),
