@@ -138,10 +138,10 @@ impl<F: FnMut(&[u8]) -> Result<(), E>, E> Decoder<F, E> {
     fn feed_through<const N: usize>(&mut self, input: &[u8]) -> Result<(), DecodeError<E>> {
         let mut buffer = Buffer::<N>::new();
         let mut rest = input;
-        let mut completes = false;
+        let mut completes_group = false;
         while self.status == DONE && !rest.is_empty() {
-            completes = N == LONG && !completes && self.state.missing() > 0;
-            let most = if completes {
+            completes_group = N == LONG && !completes_group && self.state.missing() > 0;
+            let most = if completes_group {
                 self.state.missing()
             } else {
                 rest.len()

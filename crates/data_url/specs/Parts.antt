@@ -50,7 +50,7 @@ is_left_over symbols pending padding =
 
 -- what is left over has these parts
 pub record HasParts (s : LeftOver) (symbols : List ℕ) (pending padding : ℕ) : Type 0 where
-  pub symbols_are : s.symbols ≡ symbols
+  pub symbols_are : take 3 s.symbols ≡ symbols
   pub pending_is : s.pending ≡ pending
   pub padding_is : s.padding ≡ padding
   pub good : is_left_over symbols pending padding ≡ true

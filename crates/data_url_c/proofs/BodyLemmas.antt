@@ -1,5 +1,5 @@
 -- What a call for the next part of a body does, from what the library's call does.
-use Rattle.std.proofs.Common.{List, ap, arith, false, length, not, sym, ◌==◌, ◌∙◌, ◌≡◌, ◌≤◌, ℕ}
+use Rattle.std.proofs.Common.{List, ap, arith, false, length, not, sym, take, take-take, ◌==◌, ◌∙◌, ◌≡◌, ◌≤◌, ℕ}
 use Rattle.data_url.specs.{Base64.{Kind}, Fetch.{Bad, Good}}
 use Rattle.data_url.specs.Parts.{EndsAt, MovesOn, left_over_text, prepend, rest_of}
 use Rattle.data_url.specs.declared.forgiving_base64.InvalidBase64Details.TheVariants.{AlphabetSymbolAfterPadding}
@@ -18,7 +18,11 @@ use Rattle.data_url_c.specs.declared.answer.DataUrlStep.{DataUrlStep}
 
 -- what a state holds, as a text
 left_text_is : {s : DataUrlBase64} {left : LeftOver} → HoldsLeft s left → left_over_text left ≡ waiting_text s
-left_text_is {s} {left} h = cc (h.symbols_are, h.pending_is, h.padding_is)
+left_text_is {s} {left} h = cc (h.symbols_are, h.padding_is)
+
+-- the parts of what is left over have its symbols
+pub left_in_parts : (left : LeftOver) → take left.pending (take 3 left.symbols) ≡ take left.pending left.symbols
+left_in_parts left = take-take left.pending 3 left.symbols left.few_pending
 
 -- the rest of the body that a state stands for
 rest_left : {tail : List ℕ} {s : DataUrlBody} {b : Body} → IsBodyOf tail s b → rest_of b ≡ body_left tail s

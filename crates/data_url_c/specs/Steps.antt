@@ -1,7 +1,7 @@
 -- What private functions return: definitions that no contract of an exported function uses.
 pub mod Opening
 use Rattle.std.specs.Prelude.{◌≡◌, [], Err, IsUtf8, List, MatchOption, None, Ok, Result, Some, encode_utf8_all, false}
-use Rattle.std.specs.Prelude.{option_map, true, ℕ}
+use Rattle.std.specs.Prelude.{option_map, take, true, ℕ}
 use Rattle.data_url.specs.Base64.{first_fault, kind_of}
 use Rattle.data_url.specs.DataUrl.{IsUrlOf, url_body, url_tail}
 use Rattle.data_url.specs.Fetch.{Bad, Good}
@@ -60,7 +60,7 @@ IsKept u new status =
 -- the state holds what is left over
 pub record HoldsLeft (s : DataUrlBase64) (left : LeftOver) : Type 0 where
   pub good : is_good_state s ≡ true
-  pub symbols_are : s.symbols ≡ left.symbols
+  pub symbols_are : take s.pending s.symbols ≡ take left.pending left.symbols
   pub pending_is : s.pending ≡ left.pending
   pub padding_is : s.padding ≡ left.padding
 

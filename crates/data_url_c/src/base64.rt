@@ -75,6 +75,7 @@ pub(crate) const SPENT: DataUrlBase64 = DataUrlBase64 {
 };
 
 /// Returns what is left over in a state, if the state is good.
+#[tactic(auto, using(crate::proofs::BodyLemmas::left_in_parts))]
 pub(crate) fn left_over_in(state: &DataUrlBase64) -> Option<LeftOver>
     ensures { MatchOption result (is_good_state state.now ≡ false) (HoldsLeft state.now) }
 {
@@ -83,6 +84,7 @@ pub(crate) fn left_over_in(state: &DataUrlBase64) -> Option<LeftOver>
 }
 
 /// Returns the state with this left over.
+#[tactic(auto, using(crate::proofs::BodyLemmas::left_in_parts))]
 pub(crate) fn state_with(left_over: LeftOver) -> DataUrlBase64
     ensures { HoldsLeft result left_over }
 {

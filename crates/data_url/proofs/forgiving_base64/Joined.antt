@@ -76,23 +76,23 @@ joins pass q text row p zero_fails long few passed is =
     })
 
 -- so it is with what is left over of a text
-pub joins_left : (s : left.LeftOver) (text row : List ℕ) {count : ℕ} → length s.symbols ≡ 3
+pub joins_left : (s : left.LeftOver) (text row : List ℕ) {count : ℕ}
     → row ≡ take s.pending s.symbols ++ take (16 - s.pending) (text ++ replicate 16 0)
     → count ≡ prefix_len is_symbol row → Joins is_symbol (take s.pending s.symbols) text row (count - s.pending)
-joins_left s text row three is count =
+joins_left s text row is count =
     rw count (joins is_symbol (take s.pending s.symbols) text row s.pending refl
-    (length-take-le s.pending s.symbols (omega (arith, three, s.few_pending))) (omega (arith, s.few_pending))
+    (length-take-le s.pending s.symbols (omega (arith, s.sized, s.few_pending))) (omega (arith, s.few_pending))
     s.pending_symbols is)
 
 -- the symbols that such a row begins with have those left over among them
-pub left_ahead : (s : left.LeftOver) (text row : List ℕ) {count : ℕ} → length s.symbols ≡ 3
+pub left_ahead : (s : left.LeftOver) (text row : List ℕ) {count : ℕ}
     → row ≡ take s.pending s.symbols ++ take (16 - s.pending) (text ++ replicate 16 0)
     → count ≡ prefix_len is_symbol row → s.pending ≤ count
-left_ahead s text row three is count = omega (
+left_ahead s text row is count = omega (
   arith,
-  (joins_left s text row three is count).count,
+  (joins_left s text row is count).count,
   count,
-  length-take-le s.pending s.symbols (omega (arith, three, s.few_pending)),
+  length-take-le s.pending s.symbols (omega (arith, s.sized, s.few_pending)),
 )
 
 -- if the text begins with an item that passes the test, it is read
@@ -108,17 +108,17 @@ some_after pass text row zero is ends some first =
     omega (arith, ends, ap (prefix_len pass) is, begins pass text 15 some first)
 some_after pass text row (suc at) is ends some first = omega arith
 
-pub some_read : (s : left.LeftOver) (text row : List ℕ) {count : ℕ} → length s.symbols ≡ 3
+pub some_read : (s : left.LeftOver) (text row : List ℕ) {count : ℕ}
     → row ≡ take s.pending s.symbols ++ take (16 - s.pending) (text ++ replicate 16 0)
     → count ≡ prefix_len is_symbol row → 1 ≤ length text → is_symbol (get_or text 0 0) ≡ true
     → 1 ≤ count - s.pending
-some_read s text row three is count some first =
+some_read s text row is count some first =
     let q = take s.pending s.symbols in
     let rest = take (16 - s.pending) (text ++ replicate 16 0) in
     let one : 16 - s.pending ≡ suc (15 - s.pending) = omega (arith, s.few_pending) in
     let more : 1 ≤ prefix_len is_symbol rest = rw (sym one) at (begins is_symbol text (15 - s.pending) some first) in
     let all = ap (prefix_len is_symbol) is ∙ prefix_after is_symbol q rest s.pending_symbols in
-    omega (arith, count, all, more, length-take-le s.pending s.symbols (omega (arith, three, s.few_pending)))
+    omega (arith, count, all, more, length-take-le s.pending s.symbols (omega (arith, s.sized, s.few_pending)))
 
 -- after `at` bytes of a text that pass, so do those that a row of what follows begins with
 pub all_after : (pass : ℕ → Bool) (text row : List ℕ) (at : ℕ) {end : ℕ} → pass 0 ≡ false
@@ -147,15 +147,11 @@ after_fours s n =
     let size : n / 4 * 4 + n % 4 ≡ n = omega arith in
     sym (drop-take (n / 4 * 4) (n % 4) s) ∙ ap (λ k. drop (n / 4 * 4) (take k s)) size
 
--- the symbols after the groups of a row, from what is read of the row that is turned to begin with them
-pub left_items : (row turned s : List ℕ) (n : ℕ) → length row ≡ 16 → length s ≡ 16 → n ≤ 16 → take 16 s ≡ turned
-    → turned ≡ drop (n / 4 * 4) row ++ take (n / 4 * 4) row
-    → take (n % 4) (get_or s 0 0 ∷ get_or s 1 0 ∷ get_or s 2 0 ∷ []) ≡ drop (n / 4 * 4) (take n row)
-left_items row turned s n long sized within is turned_is = cc (
-  first_items s [] (n % 4) (omega arith) (omega arith),
-  take-take (n % 4) 16 s (omega arith),
+-- the symbols after the groups of a row, in the row that is turned to begin with them
+pub left_items : (row turned : List ℕ) (n : ℕ) → length row ≡ 16 → n ≤ 16
+    → turned ≡ drop (n / 4 * 4) row ++ take (n / 4 * 4) row → take (n % 4) turned ≡ drop (n / 4 * 4) (take n row)
+left_items row turned n long within is = cc (
   is,
-  turned_is,
   take-append-le (n % 4) (drop (n / 4 * 4) row) (take (n / 4 * 4) row)
       (omega (arith, long, length-drop (n / 4 * 4) row)),
   after_fours row n,
@@ -393,22 +389,20 @@ module _ {F : Type 0} (d d' : State F) (text row bytes : List ℕ) (read count :
     held_are = same;
   }
 
--- symbols that are left over, copied to the start of a list, and those that are packed after them
-pub packed_after : (left copied zeros packed rest : List ℕ) (p n : ℕ) {k : List ℕ} → p ≤ length left → copied ≡ left
-    → n ≤ length packed → k ≡ take n packed
-    → (take (p + n) (take p (copied ++ zeros) ++ (packed ++ rest)) ≡ take p left ++ k)
-    × (p + n ≤ length (take p (copied ++ zeros) ++ (packed ++ rest)))
-packed_after left copied zeros packed rest p n few same within are =
-    let front : take p (copied ++ zeros) ≡ take p left =
-    ap (λ t. take p (t ++ zeros)) same ∙ take-append-le p left zeros few in
-    let long : p ≤ length (copied ++ zeros) =
-    omega (arith, few, ap length same, length-append copied zeros) in (
-      part_taken (copied ++ zeros) packed rest p n long within ∙ cc (front, are),
+-- symbols that are left over, in the row that a list begins with, and those that are packed after them
+pub packed_after : (left start packed rest : List ℕ) (p n : ℕ) {k : List ℕ} → p ≤ 16 → length left ≡ 16
+    → take 16 start ≡ left → n ≤ length packed → k ≡ take n packed
+    → (take (p + n) (take p start ++ (packed ++ rest)) ≡ take p left ++ k)
+    × (p + n ≤ length (take p start ++ (packed ++ rest)))
+packed_after left start packed rest p n few size is within are =
+    let front : take p start ≡ take p left = sym (take-take p 16 start few) ∙ ap (take p) is in
+    let long : p ≤ length start = omega (arith, few, size, ap length is, length-take 16 start) in (
+      part_taken start packed rest p n long within ∙ cc (front, are),
       omega (
         arith,
         within,
-        length-take-le p (copied ++ zeros) long,
-        length-append (take p (copied ++ zeros)) (packed ++ rest),
+        length-take-le p start long,
+        length-append (take p start) (packed ++ rest),
         length-append packed rest,
       ),
     )

@@ -155,20 +155,20 @@ has_pad_some (suc p) h = refl
 -- Groups of four and what is left over, written out
 
 -- the byte of two symbols left over is the first byte of the group that they begin
-pub decoded_two : (s : List ℕ) (n p : ℕ) → n ≡ 2 → length s ≡ 3 → Every is_symbol (take n s)
+pub decoded_two : (s : List ℕ) (n p : ℕ) → n ≡ 2 → 2 ≤ length s → Every is_symbol (take n s)
     → decoded (left_text (take n s) p) ≡ take 1 (group_bytes
     (group_number (symbol_value (get_or s 0 0)) (symbol_value (get_or s 1 0)) 0 0))
 unfolding groups after_groups
-decoded_two (a ∷ b ∷ c ∷ []) (suc (suc zero)) p two long every =
+decoded_two (a ∷ b ∷ s) (suc (suc zero)) p two long every =
     decoded_left (a ∷ b ∷ []) p every ∙ ap (λ x. x ∷ []) (omega arith)
 decoded_two s n p two long every = absurd (omega arith)
 
 -- the bytes of three symbols left over are the first two bytes of the group that they begin
-pub decoded_three : (s : List ℕ) (n p : ℕ) → n ≡ 3 → length s ≡ 3 → Every is_symbol (take n s)
+pub decoded_three : (s : List ℕ) (n p : ℕ) → n ≡ 3 → 3 ≤ length s → Every is_symbol (take n s)
     → decoded (left_text (take n s) p) ≡ take 2 (group_bytes (group_number (symbol_value (get_or s 0 0))
     (symbol_value (get_or s 1 0)) (symbol_value (get_or s 2 0)) 0))
 unfolding groups after_groups
-decoded_three (a ∷ b ∷ c ∷ []) (suc (suc (suc zero))) p three long every =
+decoded_three (a ∷ b ∷ c ∷ s) (suc (suc (suc zero))) p three long every =
     decoded_left (a ∷ b ∷ c ∷ []) p every ∙ ap₂ (λ x y. x ∷ y ∷ []) (omega arith) (omega arith)
 decoded_three s n p three long every = absurd (omega arith)
 

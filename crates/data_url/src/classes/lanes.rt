@@ -121,7 +121,7 @@ pub(crate) fn continued(first: u8x16, count: usize, text: &[u8], at: usize) -> u
     match count {
         0 => row_from(text, at),
         _ if count > at => joined(first, row_from(text, at), count),
-        // In the row that begins so much earlier, the bytes from the place on are where they belong.
+        // The row that begins `count` bytes earlier has the bytes from `at` on in their places.
         _ => spliced(first, row_from(text, at - count), count),
     }
 }

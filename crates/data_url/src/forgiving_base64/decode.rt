@@ -51,7 +51,7 @@ where
         Decoder {
             write_bytes,
             state: LeftOver {
-                symbols: [0; 3],
+                symbols: u8x16::splat(0),
                 pending: 0,
                 padding: 0,
             },
@@ -212,6 +212,7 @@ where
             self.write_block(block)?;
             at += BLOCK;
         }
+        // A text that ends with a block needs no test of what follows.
         if at == text.len() {
             return Ok(at);
         }
@@ -370,7 +371,7 @@ where
         ensures finished { Finishes (CalledAt F.FnMut) (state_of self.old) result
             (state_of self.new).closure }
     {
-        let [first, second, third] = self.state.symbols;
+        let [first, second, third, ..] = self.state.symbols.to_array();
         let padding = usize::from(self.state.padding);
         match self.state.pending {
             1 => Err(self.refuse(InvalidBase64Details::LoneAlphabetSymbol)),

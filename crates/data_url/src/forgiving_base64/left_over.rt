@@ -1,10 +1,11 @@
 //! What a text of base64 leaves over for the next part (Infra Standard, forgiving-base64 decode).
 
-ghost use Rattle.std.specs.Prelude.{◌≡◌, ◌≤◌, IsTrue, MatchOption, [], false, take, true};
+ghost use Rattle.std.specs.Prelude.{◌≡◌, ◌≤◌, IsTrue, MatchOption, [], false, length, take, true};
 ghost use Rattle.std.specs.List.{list_all};
 ghost use Rattle.data_url.specs.Base64.{is_symbol};
 
 use super::alphabet::is_symbol;
+use std::simd::prelude::*;
 
 /// What a text of base64 leaves over, from which decoding goes on: the symbols after its last group of four, up to
 /// three, and the number of `=` ([Infra Standard, forgiving-base64
@@ -12,14 +13,15 @@ use super::alphabet::is_symbol;
 /// copied.
 #[derive(Clone, Copy)]
 pub struct LeftOver {
-    // The symbols are the first `pending` of these.
-    pub(super) symbols: [u8; 3],
+    // The symbols are the first `pending` bytes of this row.
+    pub(super) symbols: u8x16,
     pub(super) pending: usize,
     // The number of `=`; 3 means three or more.
     pub(super) padding: u8,
     ghost few_pending: { pending ≤ 3 },
     ghost pending_symbols: { IsTrue (list_all is_symbol (take pending symbols)) },
     ghost few_padding: { padding ≤ 3 },
+    ghost sized: { length symbols ≡ 16 },
 }
 
 impl LeftOver {
@@ -31,7 +33,7 @@ impl LeftOver {
         ensures { left_over_text result ≡ [] }
     {
         LeftOver {
-            symbols: [0; 3],
+            symbols: u8x16::splat(0),
             pending: 0,
             padding: 0,
         }
@@ -49,8 +51,11 @@ impl LeftOver {
         if !symbols[..pending].iter().all(|byte| is_symbol(*byte)) {
             return None;
         }
+        let [first, second, third] = symbols;
         Some(LeftOver {
-            symbols,
+            symbols: u8x16::from_array([
+                first, second, third, 0, 0, 0, 0, 0, 0, 0, 0, 0, 0, 0, 0, 0,
+            ]),
             pending,
             padding,
         })
@@ -61,7 +66,9 @@ impl LeftOver {
     pub fn into_parts(self) -> ([u8; 3], usize, u8)
         ensures { HasParts self result.0 result.1 result.2 }
     {
-        let symbols = self.symbols;
+        let row = self.symbols.to_array();
+        let mut symbols = [0; 3];
+        symbols.copy_from_slice(&row[..3]);
         (symbols, self.pending, self.padding)
     }
 

@@ -103,15 +103,6 @@ impl LeftOver {
     ghost use Rattle.data_url.specs.Steps.Groups.{held_bytes};
     ghost use Rattle.data_url.specs.Steps.Holding.{Completes, Gains, Refuses, left_state};
 
-    /// Returns a row that begins with the symbols left over.
-    #[inline(always)]
-    fn as_row(&self) -> u8x16
-        ensures { take self.now.pending result ≡ take self.now.pending self.now.symbols }
-    {
-        let [first, second, third] = self.symbols;
-        u8x16::from_array([first, second, third, 0, 0, 0, 0, 0, 0, 0, 0, 0, 0, 0, 0, 0])
-    }
-
     /// Returns a row that has the symbols left over, then the bytes that a text begins with and, if the text is shorter
     /// than the row, zeros.
     #[inline(always)]
@@ -119,7 +110,7 @@ impl LeftOver {
         ensures { result ≡ take self.now.pending self.now.symbols
             ++ take (16 - self.now.pending) (text.now ++ replicate 16 0) }
     {
-        joined(self.as_row(), first_row(text), self.pending)
+        joined(self.symbols, first_row(text), self.pending)
     }
 
     /// Keeps the symbols after the last whole group among the first `count` symbols of a row.
@@ -131,12 +122,16 @@ impl LeftOver {
             { symbols = drop (count / 4 * 4) (take count row) } }
         ensures pending { self.new.pending ≡ count % 4 }
     {
-        self.pending = count % 4;
-        if count % 4 > 0 {
-            let mut left = [0; ROW];
-            put(&mut left, 0, rotated(row, count / 4 * 4));
-            self.symbols = [left[0], left[1], left[2]];
-        }
+        let symbols = if count % 4 > 0 {
+            rotated(row, count / 4 * 4)
+        } else {
+            self.symbols
+        };
+        *self = LeftOver {
+            symbols,
+            pending: count % 4,
+            padding: self.padding,
+        };
     }
 
     /// Reads the symbol that a text of up to 64 bytes begins with, and the symbols and the white space after it. Writes
@@ -153,7 +148,7 @@ impl LeftOver {
             (take result.1 bytes.new) }
     {
         let mut symbols = [0; 128];
-        symbols[..3].copy_from_slice(&self.symbols);
+        put(&mut symbols, 0, self.symbols);
         let (packed, read) = pack_spaced(text, &mut symbols[self.pending..]);
         let count = self.pending + packed;
         decode_unit(&symbols, count, bytes, 0);
@@ -194,7 +189,7 @@ impl LeftOver {
         ensures read { Completes (left_state self.old) (take result.0 text.now)
             (take result.1 bytes.new) (left_state self.new) }
     {
-        let mut row = self.as_row();
+        let mut row = self.symbols;
         let mut have = self.pending;
         let mut at = 0;
         let mut len = 0;

@@ -125,7 +125,7 @@ impl<'a> Body<'a> {
     ///
     /// Returns how many bytes were written, and how the body goes on: with the rest of the body, with the place where
     /// it has ended, or with the fault if its base64 is not valid.
-    // Compiled into its callers, so that the part is not written to memory and read back.
+    // Compiled into its callers, so that the returned `Part` is not written to memory and read back.
     #[inline(always)]
     pub fn next_part(self, output: &mut [u8]) -> Part<'a>
         ensures { WritesPart self.entry output.old output.new result }

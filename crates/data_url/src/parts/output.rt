@@ -109,7 +109,7 @@ fn write_base64(
 }
 
 /// Decodes the next bytes of a body into an output, after what is left over.
-// A call, since `next_part` is compiled into each of its callers.
+// Not inlined, since `next_part` is compiled into each of its callers.
 #[inline(never)]
 pub(super) fn write_body(
     base64: bool,

@@ -7,17 +7,17 @@ use Rattle.data_url.proofs.forgiving_base64.left_over.LeftOver.decode_first_row.
 
 pub overflow_sub-taken : goal.overflow_sub-taken
 overflow_sub-taken c =
-    left_ahead c.args.self.now c.args.text.now c.row_with-row.result (omega arith) c.row_with-row.ensures
+    left_ahead c.args.self.now c.args.text.now c.row_with-row.result c.row_with-row.ensures
     c.symbols_ahead-count.ensures.starts
 
 pub keep_after_groups-requires-clause-symbols : goal.keep_after_groups-requires-clause-symbols
 keep_after_groups-requires-clause-symbols c =
-    (rows_first _ _ (joins_left c.args.self.now c.args.text.now c.row_with-row.result (omega arith)
+    (rows_first _ _ (joins_left c.args.self.now c.args.text.now c.row_with-row.result
     c.row_with-row.ensures c.symbols_ahead-count.ensures.starts) c.symbols_ahead-count.ensures.starts).in_row
 
 pub returns-clause-sizes : goal.returns-clause-sizes
 returns-clause-sizes c = (
-  (joins_left c.args.self.now c.args.text.now c.row_with-row.result (omega arith) c.row_with-row.ensures
+  (joins_left c.args.self.now c.args.text.now c.row_with-row.result c.row_with-row.ensures
       c.symbols_ahead-count.ensures.starts).within,
   (omega (arith, c.symbols_ahead-count.ensures.few), omega arith),
 )
@@ -31,7 +31,7 @@ returns-clause-read c =
     let same : 0 + n / 4 * 3 ≡ n / 4 * 3 = omega arith in
     completes_rows (left_state d) (left_state c.keep_after_groups.new.self) c.args.text.now c.row_with-row.result []
     (n - d.pending) n (rows_first (n - d.pending) n
-    (joins_left d c.args.text.now c.row_with-row.result (omega arith) c.row_with-row.ensures is) is) (omega arith)
+    (joins_left d c.args.text.now c.row_with-row.result c.row_with-row.ensures is) is) (omega arith)
     c.symbols_ahead-count.ensures.few (sound d) c.requires.no_padding refl (ap (λ s. s.symbols) kept)
     (ap (λ s. s.padding) kept ∙ c.requires.no_padding) refl c.decode_row.result c.decode_row.ensures.bytes
     (rw same at (put_front c.args.bytes.now c.put.new.bytes c.decode_row.result 0 (n / 4 * 3) (omega arith)

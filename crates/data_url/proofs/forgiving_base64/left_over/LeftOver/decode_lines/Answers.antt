@@ -12,10 +12,10 @@ rows-init c =
     record {
       line = omega arith;
       few = omega (arith, d.few_pending);
-      long = omega arith;
+      long = d.sized;
       whole = refl;
       size = omega arith;
-      rows = rows_none c.args.text.now d.pending d.pending_symbols c.as_row-row.ensures;
+      rows = rows_none c.args.text.now d.pending d.pending_symbols refl;
     }
 
 -- the row has the symbols that follow

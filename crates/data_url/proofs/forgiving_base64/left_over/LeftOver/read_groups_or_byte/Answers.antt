@@ -53,5 +53,8 @@ read_symbols-requires-clause-room c =
 
 pub returns-else-self-gt0 : goal.returns-else-self-gt0
 returns-else-self-gt0 c =
-    let same : held_bytes c.if-text-ge-BLOCK.groups ≡ held_bytes c.args.groups.now = grind unfilled in
+    let same : held_bytes c.if-text-ge-BLOCK.groups ≡ held_bytes c.args.groups.now = elim c.if-text-ge-BLOCK.branch [
+      | goal.then-text-ge-BLOCK+then-is_between_groups+else-taken-gt0 w ↦ grind unfilled
+      | goal.else-text-ge-BLOCK w ↦ ap held_bytes w.groups-is
+    ] in
     rw same at c.read_symbols.ensures

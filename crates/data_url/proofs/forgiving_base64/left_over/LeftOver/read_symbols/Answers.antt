@@ -9,7 +9,7 @@ use Rattle.data_url.proofs.forgiving_base64.left_over.LeftOver.read_symbols.Goal
 
 pub overflow_sub-read : goal.overflow_sub-read
 overflow_sub-read c =
-    left_ahead c.args.self.now c.args.text.now c.row_with-row.result (omega arith) c.row_with-row.ensures
+    left_ahead c.args.self.now c.args.text.now c.row_with-row.result c.row_with-row.ensures
     c.symbols_ahead-count.ensures.starts
 
 pub keep_after_groups-requires-clause-symbols : goal.keep_after_groups-requires-clause-symbols
@@ -40,10 +40,10 @@ returns c =
     let n = c.symbols_ahead-count.result in
     let is = c.symbols_ahead-count.ensures.starts in
     let kept = c.keep_after_groups.ensures.left in
-    let rows = rows_first (n - d.pending) n (joins_left d text row (omega arith) c.row_with-row.ensures is) is in
+    let rows = rows_first (n - d.pending) n (joins_left d text row c.row_with-row.ensures is) is in
     gains_rows (left_state d) (left_state c.keep_after_groups.new.self) text row [] (n - d.pending) n rows (omega arith)
     c.symbols_ahead-count.ensures.few (sound d) c.requires.no_padding refl (ap (λ s. s.symbols) kept)
     (ap (λ s. s.padding) kept ∙ c.requires.no_padding) refl c.decode_row.result c.decode_row.ensures.bytes refl
-    (some_read d text row (omega arith) c.row_with-row.ensures is c.requires.some.0 c.requires.some.1)
+    (some_read d text row c.row_with-row.ensures is c.requires.some.0 c.requires.some.1)
     (put_front p.bytes c.put.new.bytes c.decode_row.result p.len (n / 4 * 3)
     (omega (arith, p.sized, c.requires.room)) (omega arith) c.put.ensures)

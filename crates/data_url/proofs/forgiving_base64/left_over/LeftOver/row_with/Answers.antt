@@ -6,7 +6,6 @@ returns c =
     let d = c.args.self.now in
     cc (
       c.joined.ensures,
-      c.as_row.ensures,
       c.first_row.ensures,
       take-take (16 - d.pending) 16 (c.args.text.now ++ replicate 16 0) (omega arith),
     )
