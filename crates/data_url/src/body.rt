@@ -85,8 +85,8 @@ where
 
 /// Decodes a tail up to its first `#` or `%`, in parts of at most 16 KiB, which is the most that
 /// `feed_to_escape_or_end` accepts. So the decoder cannot read far past a fault. Blocks of 64 symbols are decoded only
-/// from the start of a group. If a part would begin within a group, it first feeds as many bytes as the group lacks
-/// symbols, or the rest if it is shorter. If white space among them leaves the group incomplete, the part begins within
+/// from the start of a group. If a part would begin within a group, as many bytes as the group lacks symbols are fed
+/// first, or the rest if it is shorter. If white space among them leaves the group incomplete, the part begins within
 /// it. Returns the place of the `#` or `%`, or the length of the tail.
 fn feed_front<F, E>(decoder: &mut Decoder<F, E>, tail: &[u8]) -> Result<usize, DecodeError<E>>
 where

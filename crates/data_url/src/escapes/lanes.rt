@@ -50,9 +50,9 @@ fn row_marks(bytes: u8x16) -> u64
     marks_of(repeated(bytes), false) % 65536
 }
 
-/// Returns the marks of fewer than 64 bytes: bit k is set if byte k is marked. They are read in rows. The last row ends
-/// where the bytes end, and the marks of those that an earlier row has are shifted out. If there are fewer than sixteen
-/// bytes, zeros follow them in their row.
+/// Returns the marks of fewer than 64 bytes: bit k is set if byte k is marked. The bytes are read in rows. The last row
+/// ends where the bytes end, and the marks of those that an earlier row has are shifted out. If there are fewer than
+/// sixteen bytes, zeros, which are not marked, follow them in their row.
 #[inline(never)]
 pub(super) fn last_marks(rest: &[u8]) -> u64
     requires { length rest.now < 64 }

@@ -212,7 +212,7 @@ where
             self.write_block(block)?;
             at += BLOCK;
         }
-        // A text that ends with a block needs no test of what follows.
+        // If the text ends with a block, nothing is left to test.
         if at == text.len() {
             return Ok(at);
         }

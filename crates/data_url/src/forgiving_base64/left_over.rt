@@ -13,7 +13,7 @@ use std::simd::prelude::*;
 /// copied.
 #[derive(Clone, Copy)]
 pub struct LeftOver {
-    // The symbols are the first `pending` bytes of this row.
+    // A row that begins with the symbols, `pending` of them. Its other bytes are of no use.
     pub(super) symbols: u8x16,
     pub(super) pending: usize,
     // The number of `=`; 3 means three or more.
@@ -67,6 +67,7 @@ impl LeftOver {
         ensures { HasParts self result.0 result.1 result.2 }
     {
         let row = self.symbols.to_array();
+        // Copied together, since the next call from C reads two of them at once.
         let mut symbols = [0; 3];
         symbols.copy_from_slice(&row[..3]);
         (symbols, self.pending, self.padding)
