@@ -2,7 +2,8 @@
 
 ghost use Rattle.std.specs.{Prelude.{◌≡◌, None, IfSome, IfNone, false, true}, List.{list_all}};
 ghost use Rattle.data_url.specs.Url.{after, comma, front, trimmed_text, without_tabs_and_newlines};
-ghost use Rattle.data_url.specs.Steps.{Header.{header_text}, Split.{HasNoScheme, IsHeaderAndTail, IsSchemeAndRest}};
+ghost use Rattle.data_url.specs.Steps.Header.{header_text};
+ghost use Rattle.data_url.specs.Steps.Split.{HasNoScheme, IsHeaderAndTail, IsSchemeAndRest};
 ghost use Rattle.data_url.specs.Steps.Split.{is_unencoded_path};
 
 use crate::classes::{Class, end_span, has, long_span, span};

@@ -2,7 +2,8 @@
 
 ghost use Rattle.std.specs.Prelude.{◌≡◌, ◌≤◌, MatchOption, length};
 ghost use Rattle.data_url.specs.DataUrl.{url_body, url_tail};
-ghost use Rattle.data_url_c.specs.{Answers.{Answers}, Bodies.{EndsAs, IsGoodBody, StepsBody}, Gives.{GivesBody}};
+ghost use Rattle.data_url_c.specs.{Answers.{Answers}, Bodies.{EndsAs, IsGoodBody, StepsBody}};
+ghost use Rattle.data_url_c.specs.Gives.{GivesBody};
 ghost use Rattle.data_url_c.specs.Steps.{IsBodyOf};
 
 use crate::answer::{DataUrlAnswer, DataUrlStep, Refusal, answer, show};

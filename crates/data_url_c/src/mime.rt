@@ -1,7 +1,8 @@
 //! MIME types, as they are printed and in parts.
 
 ghost use Rattle.data_url.specs.MimeType.{record_of};
-ghost use Rattle.data_url_c.specs.{Answers.{Answers}, Gives.{GivesMime, GivesType, GivesTypeInParts}, Steps.{HasText}};
+ghost use Rattle.data_url_c.specs.Answers.{Answers};
+ghost use Rattle.data_url_c.specs.{Gives.{GivesMime, GivesType, GivesTypeInParts}, Steps.{HasText}};
 
 use crate::answer::{DataUrlAnswer, Refusal, answer, written};
 use crate::url::{text_of, url_of_bytes};

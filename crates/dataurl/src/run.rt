@@ -8,7 +8,8 @@ ghost use Rattle.dataurl.specs.Command.{TakesText};
 ghost use Rattle.dataurl.specs.Output.{IsBodyOutput, IsFragmentOutput, IsTextOutput, record_line};
 ghost use Rattle.dataurl.specs.Runs.{Runs};
 ghost use Rattle.dataurl.specs.Steps.Gathering.{Streams};
-ghost use Rattle.dataurl.specs.Steps.Parts.{AnyAnswer, IsExactly, IsUrlFor, WritesOf, fragment_line, url_fragment};
+ghost use Rattle.dataurl.specs.Steps.Parts.{AnyAnswer, IsExactly, IsUrlFor, WritesOf};
+ghost use Rattle.dataurl.specs.Steps.Parts.{fragment_line, url_fragment};
 
 use crate::command::Command;
 use crate::fault::{Fault, WriteFailed};

@@ -1,7 +1,8 @@
 //! Decodes the groups of a text of base64 (RFC 4648, section 4), in rows of sixteen bytes. White space, `=` and faults
 //! that the rows do not pass over are read byte by byte.
 
-ghost use Rattle.std.specs.Prelude.{◌≡◌, ◌<◌, ◌≤◌, ◌++◌, ◌+◌, ◌-◌, ◌*◌, ◌/◌, ◌%◌, IsTrue, MatchOption, MatchResult, []};
+ghost use Rattle.std.specs.Prelude.{◌≡◌, ◌<◌, ◌≤◌, ◌++◌, ◌+◌, ◌-◌, ◌*◌, ◌/◌, ◌%◌, IsTrue};
+ghost use Rattle.std.specs.Prelude.{MatchOption, MatchResult, []};
 ghost use Rattle.std.specs.Prelude.{drop, length, replicate, slice_index, take};
 ghost use Rattle.std.specs.List.{list_all};
 ghost use Rattle.data_url.specs.Base64.{is_symbol};

@@ -3,9 +3,11 @@
 #![tactic(auto, using(crate::proofs::mime::Parsing::cuts))]
 
 ghost use Rattle.std.specs.{Prelude.{◌≡◌, ◌<◌, ◌∷◌, [], None, Some, MatchOption, length, take}, Str.{chars}};
-ghost use Rattle.data_url.specs.{CodePoints.{is_http_whitespace, is_token}, Mime.{BeginsParameters, is_token_text}};
+ghost use Rattle.data_url.specs.CodePoints.{is_http_whitespace, is_token};
+ghost use Rattle.data_url.specs.Mime.{BeginsParameters, is_token_text};
 ghost use Rattle.data_url.specs.Url.{without_end, without_start};
-ghost use Rattle.data_url.specs.Steps.Parsing.{IsTokens, IsTrimmedEnd, after_char, front_of, in_name, in_value};
+ghost use Rattle.data_url.specs.Steps.Parsing.{IsTokens, IsTrimmedEnd, after_char, front_of};
+ghost use Rattle.data_url.specs.Steps.Parsing.{in_name, in_value};
 
 use crate::classes::{Class, end_span, span};
 

@@ -1,7 +1,7 @@
 //! The parameters that are kept while a MIME type is read: of each name the first.
 
-ghost use Rattle.std.specs.Prelude.{false, ◌≡◌, ◌==◌, ◌<◌, ◌≤◌, ◌+◌, ◌++◌, ◌∷◌, [], IsTrue, OnOk, drop, length, map};
-ghost use Rattle.std.specs.Prelude.{take, true};
+ghost use Rattle.std.specs.Prelude.{false, ◌≡◌, ◌==◌, ◌<◌, ◌≤◌, ◌+◌, ◌++◌, ◌∷◌, [], IsTrue, OnOk};
+ghost use Rattle.std.specs.Prelude.{drop, length, map, take, true};
 ghost use Rattle.std.specs.{Char.{to_ascii_lowercase}, Simd.Lanes.{mask_l}, Str.{chars}};
 ghost use Rattle.data_url.specs.{Mime.{has_name, is_lowercase_name, is_token_text}, MimeType.{code_points}};
 ghost use Rattle.data_url.specs.Steps.Parsing.{unless_named};

@@ -1,14 +1,15 @@
 //! Reads a MIME type (MIME Sniffing Standard, section 4.4).
 
-ghost use Rattle.std.specs.Prelude.{◌≡◌, ◌<◌, ◌++◌, List, MatchOption, IfOk, IsTrue, OnOk, codes, drop, false};
-ghost use Rattle.std.specs.Prelude.{map, suc, take, true};
+ghost use Rattle.std.specs.Prelude.{◌≡◌, ◌<◌, ◌++◌, List, MatchOption, IfOk, IsTrue, OnOk, codes};
+ghost use Rattle.std.specs.Prelude.{drop, false, map, suc, take, true};
 ghost use Rattle.std.specs.Str.{chars};
-ghost use Rattle.data_url.specs.Mime.{BeginsParameters, IsHead, Item, Items, is_token_text, kept_pairs, valid_of};
-ghost use Rattle.data_url.specs.Mime.{IsRecordOfParts};
+ghost use Rattle.data_url.specs.Mime.{BeginsParameters, IsHead, Item, Items, is_token_text};
+ghost use Rattle.data_url.specs.Mime.{kept_pairs, valid_of, IsRecordOfParts};
 ghost use Rattle.data_url.specs.Url.{without_start};
-ghost use Rattle.data_url.specs.Steps.Parsing.{HasNoHead, IsTrimmed, given_reading, in_value, item_in, pair_in};
-ghost use Rattle.data_url.specs.Steps.Parsing.{unquoted_reading, quotable_value, quoted_len, reading_in, unescaped};
-ghost use Rattle.data_url.specs.Steps.Parsing.{unless_named, value_of};
+ghost use Rattle.data_url.specs.Steps.Parsing.{HasNoHead, IsTrimmed, given_reading, in_value};
+ghost use Rattle.data_url.specs.Steps.Parsing.{item_in, pair_in, quotable_value};
+ghost use Rattle.data_url.specs.Steps.Parsing.{quoted_len, reading_in, unescaped, unless_named};
+ghost use Rattle.data_url.specs.Steps.Parsing.{unquoted_reading, value_of};
 ghost use Rattle.data_url.specs.{Steps.Kept.{IsIndexed, pairs_of}, MimeType.{pair_of, record_of}};
 
 use super::Mime;
